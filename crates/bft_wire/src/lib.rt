@@ -1,0 +1,8 @@
+//! The messages between members, and the reasons for which one brings nothing.
+#![tactic(auto)]
+
+mod message;
+mod reason;
+
+pub use message::{Commit, PrePrepare, Prepare};
+pub use reason::Reason;

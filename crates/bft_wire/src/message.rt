@@ -1,0 +1,30 @@
+use ord_types::{Block, Cert, Digest, Sig};
+
+/// The leader's block for a number, with the certificate of the block before it.
+#[derive(Drop)]
+pub struct PrePrepare {
+    pub config: u64,
+    pub view: u64,
+    pub number: u64,
+    pub block: Block,
+    pub cert: Option<Cert>,
+}
+
+/// A member accepted the block of this digest.
+#[derive(Clone, Copy, Debug, PartialEq, Eq)]
+pub struct Prepare {
+    pub config: u64,
+    pub view: u64,
+    pub number: u64,
+    pub digest: Digest,
+}
+
+/// A member knows that a quorum accepted the block of this digest, and signs for it.
+#[derive(Drop)]
+pub struct Commit {
+    pub config: u64,
+    pub view: u64,
+    pub number: u64,
+    pub digest: Digest,
+    pub sig: Sig,
+}

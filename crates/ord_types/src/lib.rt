@@ -1,0 +1,17 @@
+//! The values of the ordering service, their bytes and hashes, and the traits of what stands outside.
+#![tactic(auto)]
+
+mod lists;
+mod members;
+mod memory;
+mod outside;
+mod values;
+
+pub use lists::{Bytes, Copied, List, NoMemory};
+pub use members::{fault_bound, majority, quorum};
+pub use memory::{MemSink, MemSource};
+pub use outside::{Failed, Sink, Source};
+pub use values::{
+    Batch, Block, Cert, Config, Digest, Header, Kind, Meta, Mode, Place, Proof, ReqId, ReqKind,
+    Request, Sig,
+};
