@@ -4,5 +4,5 @@
 mod message;
 mod reason;
 
-pub use message::{Commit, PrePrepare, Prepare};
+pub use message::{Commit, Message, PrePrepare, Prepare};
 pub use reason::Reason;

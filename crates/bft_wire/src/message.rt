@@ -1,4 +1,4 @@
-use ord_types::{Block, Cert, Digest, Sig};
+use ord_types::{Block, Cert, Copied, Digest, NoMemory, Sig};
 
 /// The leader's block for a number, with the certificate of the block before it.
 #[derive(Drop)]
@@ -27,4 +27,40 @@ pub struct Commit {
     pub number: u64,
     pub digest: Digest,
     pub sig: Sig,
+}
+
+/// A message between members.
+#[derive(Drop)]
+pub enum Message {
+    PrePrepare(PrePrepare),
+    Prepare(Prepare),
+    Commit(Commit),
+}
+
+impl Copied for PrePrepare {
+    fn copy(&self) -> Result<PrePrepare, NoMemory> {
+        let cert = match &self.cert {
+            Some(cert) => Some(cert.copy()?),
+            None => None,
+        };
+        Ok(PrePrepare {
+            config: self.config,
+            view: self.view,
+            number: self.number,
+            block: self.block.copy()?,
+            cert,
+        })
+    }
+}
+
+impl Copied for Commit {
+    fn copy(&self) -> Result<Commit, NoMemory> {
+        Ok(Commit {
+            config: self.config,
+            view: self.view,
+            number: self.number,
+            digest: self.digest,
+            sig: self.sig.copy()?,
+        })
+    }
 }

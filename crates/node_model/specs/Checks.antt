@@ -1,0 +1,28 @@
+-- What a proposed block and the certificate that comes with it must be at a place.
+use Rattle.std.specs.Prelude.{ℕ, ◌+◌, ◌-◌, Bool, false, ◌&&◌, ◌==◌, nat_lt, List, [], Option, Some, None}
+use Rattle.std.specs.Str.{bytes_eq}
+use Rattle.ord_types.specs.declared.values.Cert.{Cert}
+use Rattle.safety_model.specs.Blocks.{Block, hashes_fit, is_lawful}
+use Rattle.safety_model.specs.Facts.{signers_of}
+use Rattle.signer_edge.specs.Accepts.{Accepts}
+use Rattle.signer_edge.specs.Certificates.{is_good_cert}
+use Rattle.node_model.specs.Letters.{PrePrepare}
+use Rattle.node_model.specs.Leading.{Place, is_at_start, next_meta, meta_eq}
+
+-- the block may come next at the place: its number, the block before it, its hashes, and what it orders
+unfoldable pub is_next_block : Place → Block → Bool
+is_next_block place b =
+    (b.header.number == place.height) && bytes_eq b.header.previous place.last && hashes_fit b && is_lawful place.config b
+
+abbrev pub signers_carried : Option Cert → List ℕ
+signers_carried None = []
+signers_carried (Some cert) = signers_of cert
+
+-- a proposal carries a good certificate of the last block, and none at the start of a configuration
+abbrev pub is_carried_good : Accepts → Place → Option Cert → Bool
+is_carried_good accepts place None = is_at_start place
+is_carried_good accepts place (Some cert) = nat_lt place.start place.height && is_good_cert accepts place.config (place.height - 1) place.last cert
+
+-- the block is the next one, with the meta that belongs to the view and to what is carried
+abbrev pub is_block_of_view : Place → ℕ → PrePrepare → Bool
+is_block_of_view place v m = is_next_block place m.block && meta_eq m.block.meta (next_meta place v (signers_carried m.cert))

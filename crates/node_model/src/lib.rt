@@ -1,0 +1,8 @@
+//! What a member of a configuration does about its view: the definitions that the code and the theorem share.
+#![tactic(auto)]
+
+mod act;
+mod letter;
+
+pub use act::Act;
+pub use letter::Letter;
