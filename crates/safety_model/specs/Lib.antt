@@ -1,0 +1,6 @@
+pub mod Blocks
+pub mod Facts
+pub mod Log
+pub mod Rules
+pub mod Safety
+pub mod State
