@@ -1,5 +1,5 @@
 -- Lemmas on fields.
-use Rattle.std.proofs.Common.{◌≡◌, ℕ, ◌+◌, ◌-◌, ◌<◌, ◌≤◌, List, [], ◌∷◌, ◌++◌, cond, eqb, ltb, leb, length, get_or, drop, sym, ap, ◌∙◌, refl, arith, Option, Some, None, IsSome, unwrap_or}
+use Rattle.std.proofs.Common.{◌≡◌, ℕ, ◌+◌, ◌-◌, ◌<◌, ◌≤◌, List, [], ◌∷◌, ◌++◌, cond, eqb, ltb, leb, length, get_or, drop, sym, ap, ◌∙◌, refl, arith, Option, Some, None}
 use Rattle.std.proofs.lemmas.List.{append_assoc}
 use Rattle.std.proofs.lemmas.List.Splits.{length-slice_split}
 use Rattle.std.specs.List.{slice_split}
@@ -26,11 +26,9 @@ range_three : (first last : List ℕ) (parts : List (List ℕ)) → 0 < length p
 range_three first last [] h = absurd (omega arith)
 range_three first last (other ∷ more) h = refl
 
-pub range_of_three : (text first last : List ℕ) (rest : Option (List ℕ)) (others : Option (List ℕ))
-    → slice_split (λ b. eqb b 45) text ≡ first ∷ parts_left 45 rest → slice_split (λ b. eqb b 45) (unwrap_or rest []) ≡ last ∷ parts_left 45 others → IsSome rest → IsSome others
+pub range_of_three : (text first rest last third : List ℕ)
+    → slice_split (λ b. eqb b 45) text ≡ first ∷ parts_left 45 (Some rest) → slice_split (λ b. eqb b 45) rest ≡ last ∷ parts_left 45 (Some third)
     → range_of text ≡ None
 unfolding range_of
-range_of_three text first last (Some rest) (Some third) cut again a b =
+range_of_three text first rest last third cut again =
     rw (cut, again) (range_three first last (slice_split (λ b. eqb b 45) third) (omega (arith, length-slice_split (λ b. eqb b 45) third)))
-range_of_three text first last None others cut again a b = absurd a
-range_of_three text first last (Some rest) None cut again a b = absurd b

@@ -171,10 +171,10 @@ fn range(text: &[u8]) -> Option<Range>
         });
     };
     let (last, others) = part(rest, b'-');
-    if others.is_some() {
-        return None;
+    match others {
+        None => in_order(entry(first)?, entry(last)?),
+        Some(_) => None,
     }
-    in_order(entry(first)?, entry(last)?)
 }
 
 /// One or more ranges joined by commas.
