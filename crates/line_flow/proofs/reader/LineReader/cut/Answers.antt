@@ -1,0 +1,26 @@
+use Rattle.std.proofs.Common.{◌≡◌, ◌≢◌, ℕ, ◌+◌, ◌-◌, ◌<◌, ◌≤◌, List, [], ◌∷◌, ◌++◌, length, get_or, take, drop, arith, slice_range, refl, eq-eqb}
+use Rattle.line_flow.specs.Reader.{unread}
+use Rattle.line_flow.specs.Lines.{IsUnbroken}
+use Rattle.line_flow.proofs.LineLemmas.{part_cut, IsUnbroken-append, IsUnbroken-take, IsUnbroken-whole}
+use Rattle.std.proofs.lemmas.Bool.{eqb-true}
+use Rattle.std.proofs.lemmas.List.{append_assoc}
+use Rattle.line_flow.proofs.reader.LineReader.cut.Goals as goal
+
+pub returns-in_ok-extend_from_slice-in-Some-clause-met : goal.returns-in_ok-extend_from_slice-in-Some-clause-met
+returns-in_ok-extend_from_slice-in-Some-clause-met c =
+    let reader = c.args.self.now in
+    let first = rw c.deref.ensures.value at c.in-Some.ensures in
+    let split = part_cut reader.chunk.items reader.from reader.to c.in-Some.at 10 (omega arith) (omega arith) first.0.high (eqb-true _ _ first.1) in
+    λ _. rw (c.in_ok-extend_from_slice-in-Some.ensures.items, c.deref.ensures.value, append_assoc, split) refl
+
+pub returns-in_ok-extend_from_slice-in-Some-clause-unbroken : goal.returns-in_ok-extend_from_slice-in-Some-clause-unbroken
+returns-in_ok-extend_from_slice-in-Some-clause-unbroken c =
+    let reader = c.args.self.now in
+    let first = rw c.deref.ensures.value at c.in-Some.ensures in
+    λ before. rw (c.in_ok-extend_from_slice-in-Some.ensures.items, c.deref.ensures.value) (IsUnbroken-append _ _ before (IsUnbroken-take (slice_range reader.chunk.items reader.from reader.to) c.in-Some.at (λ k low within e. first.0.before k (omega arith) low (eq-eqb _ 10 e))))
+
+pub returns-in_ok-extend_from_slice-in-None-clause-unbroken : goal.returns-in_ok-extend_from_slice-in-None-clause-unbroken
+returns-in_ok-extend_from_slice-in-None-clause-unbroken c =
+    let reader = c.args.self.now in
+    let none = rw c.deref.ensures.value at c.in-None.ensures in
+    λ before. rw (c.in_ok-extend_from_slice-in-None.ensures.items, c.deref.ensures.value) (IsUnbroken-append _ _ before (IsUnbroken-whole (slice_range reader.chunk.items reader.from reader.to) (λ k within e. none k (omega arith) within (eq-eqb _ 10 e))))

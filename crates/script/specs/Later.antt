@@ -1,0 +1,34 @@
+-- The lines of later parts.
+use Rattle.std.specs.Prelude.{ℕ, ◌+◌, ◌||◌, ◌&&◌, not, Bool, true, false, List, [], ◌∷◌, length, nat_eq, nat_lt, codes}
+use Rattle.std.specs.List.{list_any, starts_with}
+use Rattle.std.specs.Str.{bytes_eq}
+use Rattle.script.specs.Words.{Word}
+
+-- a first word of a later part
+unfoldable pub is_later_word : List ℕ → Bool
+is_later_word text =
+    bytes_eq text (codes "raw") || bytes_eq text (codes "byz-propose") || bytes_eq text (codes "byz-vote") || bytes_eq text (codes "byz-change")
+    || bytes_eq text (codes "byz-report") || bytes_eq text (codes "lie") || bytes_eq text (codes "seal") || bytes_eq text (codes "show")
+    || bytes_eq text (codes "stop") || bytes_eq text (codes "stop-at") || bytes_eq text (codes "start") || bytes_eq text (codes "config")
+    || bytes_eq text (codes "join")
+
+-- lines whose grammar is built and whose effect is not: `deliver`, `tick` with a count, `flush` with ids
+unfoldable pub is_later_form : List ℕ → List Word → Bool
+is_later_form first more =
+    bytes_eq first (codes "deliver") || (bytes_eq first (codes "tick") && nat_lt 1 (length more)) || (bytes_eq first (codes "flush") && nat_lt 0 (length more))
+
+-- a word begins like an option of `genesis` of a later part
+unfoldable pub is_later_option : List ℕ → Bool
+is_later_option text =
+    starts_with nat_eq text (codes "byz=") || starts_with nat_eq text (codes "rotation=") || starts_with nat_eq text (codes "wait=")
+    || starts_with nat_eq text (codes "pool=") || starts_with nat_eq text (codes "extra=")
+
+-- `genesis` of the kind `raft`, with an option of a later part, or without the batch of one request
+unfoldable pub is_later_genesis : List Word → Bool
+is_later_genesis [] = true
+is_later_genesis (kind ∷ more) =
+    bytes_eq kind.text (codes "raft") || list_any (λ word. is_later_option word.text) more || not (list_any (λ word. bytes_eq word.text (codes "batch=1")) (kind ∷ more))
+
+-- a line of a later part, by its first word and those behind it
+abbrev pub is_later : List ℕ → List Word → Bool
+is_later first more = is_later_word first || is_later_form first more || (bytes_eq first (codes "genesis") && is_later_genesis more)

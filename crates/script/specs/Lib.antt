@@ -1,0 +1,5 @@
+pub mod Words
+pub mod Fields
+pub mod Reading
+pub mod Later
+pub mod Grammar

@@ -1,0 +1,212 @@
+ghost use Rattle.std.specs.Prelude.{◌≡◌, ◌≤◌, ◌+◌, ◌^◌, ◌-◌, ◌∷◌, [], IsNone, IfNone, IfSome, IfOk, IfErr, None, length, nat_lt};
+ghost use Rattle.script.specs.Words.{words_left};
+ghost use Rattle.script.specs.Fields.{number_of, id_of, ticks_of, hex_of, ids_of, given_ids_of, ranges_of};
+ghost use Rattle.script.specs.Grammar.{same_as};
+ghost use Rattle.script.specs.Reading.{Reads, Gives, field, field_or, no_more};
+
+use crate::command::{Range, Stop};
+use crate::fields::{hex, id, ids, number, ranges, ticks};
+use memchr::memchr;
+use ord_types::{Bytes, List};
+use std::alloc::Global;
+
+/// The words of a line, one after the other.
+#[derive(Drop)]
+pub struct Words<'a> {
+    line: &'a [u8],
+    from: usize,
+}
+
+impl<'a> Words<'a> {
+    pub fn new(line: &'a [u8]) -> Words<'a>
+        ensures line { result.line.now ≡ line.now }
+        ensures from { result.from ≡ 0 }
+    {
+        Words { line, from: 0 }
+    }
+
+    /// The next word, and the place of its first byte.
+    pub fn next(&mut self) -> Option<(usize, &'a [u8])>
+        ensures line { self.new.line.now ≡ self.old.line.now }
+        ensures none { IfNone result (words_left self.old.line.now self.old.from ≡ []) }
+        ensures same { IfNone result (self.new.from ≡ self.old.from) }
+        ensures some { IfSome result (λ word. words_left self.old.line.now self.old.from ≡ record { place = word.0; text = word.1.now } ∷ words_left self.new.line.now self.new.from) }
+    {
+        if self.line.len() < self.from {
+            return None;
+        }
+        let place = self.from + 1;
+        let rest = &self.line[self.from..];
+        match memchr(b' ', rest) {
+            Some(at) => {
+                self.from += at + 1;
+                Some((place, &rest[..at]))
+            }
+            None => {
+                self.from = self.line.len() + 1;
+                Some((place, rest))
+            }
+        }
+    }
+
+    /// The next word, which may not be missing.
+    fn word(&mut self) -> Result<(usize, &'a [u8]), Stop>
+        ensures line { self.new.line.now ≡ self.old.line.now }
+        ensures missing { IfErr result (λ stop. (stop ≡ Stop.Malformed (length self.old.line.now + 1)) × (words_left self.old.line.now self.old.from ≡ [])) }
+        ensures found { IfOk result (λ word. words_left self.old.line.now self.old.from ≡ record { place = word.0; text = word.1.now } ∷ words_left self.new.line.now self.new.from) }
+    {
+        match self.next() {
+            Some(word) => Ok(word),
+            None => Err(Stop::Malformed(self.line.len() + 1)),
+        }
+    }
+
+    /// The same words once more.
+    pub fn again(&self) -> Words<'a>
+        ensures line { result.line.now ≡ self.now.line.now }
+        ensures from { result.from ≡ self.now.from }
+    {
+        Words {
+            line: self.line,
+            from: self.from,
+        }
+    }
+
+    /// Whether there is a next word.
+    pub fn has_some(&self) -> bool
+        ensures { result ≡ nat_lt 0 (length (words_left self.now.line.now self.now.from)) }
+    {
+        self.again().next().is_some()
+    }
+
+    /// Whether there are two words or more.
+    pub fn has_more_than_one(&self) -> bool
+        ensures { result ≡ nat_lt 1 (length (words_left self.now.line.now self.now.from)) }
+    {
+        let mut words = self.again();
+        words.next().is_some() && words.has_some()
+    }
+
+    /// A word that is this one.
+    pub fn same(&mut self, wanted: &[u8]) -> Result<(), Stop>
+        ensures line { self.new.line.now ≡ self.old.line.now }
+        ensures reads { Reads result (words_left self.new.line.now self.new.from) (field (same_as wanted.now) (length self.old.line.now + 1) (words_left self.old.line.now self.old.from)) }
+    {
+        let (place, word) = self.word()?;
+        if word == wanted {
+            Ok(())
+        } else {
+            Err(Stop::Malformed(place))
+        }
+    }
+
+    /// An id.
+    pub fn id(&mut self) -> Result<u32, Stop>
+        ensures line { self.new.line.now ≡ self.old.line.now }
+        ensures reads { Reads result (words_left self.new.line.now self.new.from) (field id_of (length self.old.line.now + 1) (words_left self.old.line.now self.old.from)) }
+    {
+        let (place, word) = self.word()?;
+        match id(word) {
+            Some(id) => Ok(id),
+            None => Err(Stop::Malformed(place)),
+        }
+    }
+
+    /// A count of ticks, 1 where there is no word.
+    pub fn ticks(&mut self) -> Result<u32, Stop>
+        ensures line { self.new.line.now ≡ self.old.line.now }
+        ensures reads { Reads result (words_left self.new.line.now self.new.from) (field_or 1 ticks_of (words_left self.old.line.now self.old.from)) }
+    {
+        let Some((place, word)) = self.next() else {
+            return Ok(1);
+        };
+        match ticks(word) {
+            Some(count) => Ok(count),
+            None => Err(Stop::Malformed(place)),
+        }
+    }
+
+    /// A number below 2^32.
+    pub fn u32(&mut self) -> Result<u32, Stop>
+        ensures line { self.new.line.now ≡ self.old.line.now }
+        ensures reads { Reads result (words_left self.new.line.now self.new.from) (field (number_of (2 ^ 32 - 1)) (length self.old.line.now + 1) (words_left self.old.line.now self.old.from)) }
+    {
+        let (place, word) = self.word()?;
+        match number(word, u64::from(u32::MAX)) {
+            Some(n) => Ok(n as u32),
+            None => Err(Stop::Malformed(place)),
+        }
+    }
+
+    /// A number below 2^64.
+    pub fn u64(&mut self) -> Result<u64, Stop>
+        ensures line { self.new.line.now ≡ self.old.line.now }
+        ensures reads { Reads result (words_left self.new.line.now self.new.from) (field (number_of (2 ^ 64 - 1)) (length self.old.line.now + 1) (words_left self.old.line.now self.old.from)) }
+    {
+        let (place, word) = self.word()?;
+        match number(word, u64::MAX) {
+            Some(n) => Ok(n),
+            None => Err(Stop::Malformed(place)),
+        }
+    }
+
+    /// Bytes in hex.
+    pub fn hex(&mut self, alloc: Global) -> Result<Bytes, Stop>
+        ensures line { self.new.line.now ≡ self.old.line.now }
+        ensures reads { Reads result (words_left self.new.line.now self.new.from) (field hex_of (length self.old.line.now + 1) (words_left self.old.line.now self.old.from)) }
+    {
+        let (place, word) = self.word()?;
+        match hex(alloc, word)? {
+            Some(bytes) => Ok(bytes),
+            None => Err(Stop::Malformed(place)),
+        }
+    }
+
+    /// Ids joined by commas.
+    pub fn ids(&mut self, alloc: Global) -> Result<List<u32>, Stop>
+        ensures line { self.new.line.now ≡ self.old.line.now }
+        ensures reads { Reads result (words_left self.new.line.now self.new.from) (field ids_of (length self.old.line.now + 1) (words_left self.old.line.now self.old.from)) }
+    {
+        let (place, word) = self.word()?;
+        match ids(alloc, word)? {
+            Some(ids) => Ok(ids),
+            None => Err(Stop::Malformed(place)),
+        }
+    }
+
+    /// Ids joined by commas, or none where there is no word.
+    pub fn given_ids(&mut self, alloc: Global) -> Result<Option<List<u32>>, Stop>
+        ensures line { self.new.line.now ≡ self.old.line.now }
+        ensures reads { Reads result (words_left self.new.line.now self.new.from) (field_or None given_ids_of (words_left self.old.line.now self.old.from)) }
+    {
+        let Some((place, word)) = self.next() else {
+            return Ok(None);
+        };
+        match ids(alloc, word)? {
+            Some(ids) => Ok(Some(ids)),
+            None => Err(Stop::Malformed(place)),
+        }
+    }
+
+    /// Ranges joined by commas.
+    pub fn ranges(&mut self, alloc: Global) -> Result<List<Range>, Stop>
+        ensures line { self.new.line.now ≡ self.old.line.now }
+        ensures reads { Reads result (words_left self.new.line.now self.new.from) (field ranges_of (length self.old.line.now + 1) (words_left self.old.line.now self.old.from)) }
+    {
+        let (place, word) = self.word()?;
+        match ranges(alloc, word)? {
+            Some(ranges) => Ok(ranges),
+            None => Err(Stop::Malformed(place)),
+        }
+    }
+
+    /// That no word is left.
+    pub fn end(&mut self) -> Result<(), Stop>
+        ensures { Gives (λ _. tt {0}) result (no_more (words_left self.old.line.now self.old.from)) }
+    {
+        match self.next() {
+            None => Ok(()),
+            Some((place, _)) => Err(Stop::Malformed(place)),
+        }
+    }
+}

@@ -1,0 +1,6 @@
+pub mod Runs
+pub mod Turns
+pub mod Texts
+pub mod Faults
+pub mod Statuses
+pub mod Worlds

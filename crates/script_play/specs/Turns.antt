@@ -1,0 +1,21 @@
+-- What a command prints, and where it leads.
+use Rattle.std.specs.Prelude.{◌≡◌, ℕ, List, ◌++◌, Result, Ok, Err, Option, MatchOption}
+use Rattle.script_play.specs.declared.ending.Ending.{Ending}
+use Rattle.script_play.specs.declared.ending.Ending.TheVariants.{Done, MalformedLine, LaterLine, Limit}
+
+-- a turn: its text, and the world after it or how the run ends
+pub record Turn (W : Type 0) : Type 0 where
+  pub printed : List ℕ
+  pub next : Result W Ending
+
+-- the text grew by the turn's, and the world is the next one, or the run has ended
+pub record Turned {W : Type 0} (turn : Turn W) (before after : List ℕ) (world : W) (ending : Option Ending) : Type 0 where
+  pub printed : after ≡ before ++ turn.printed
+  pub next : MatchOption ending (turn.next ≡ Ok world) (λ e. turn.next ≡ Err e)
+
+-- an ending by a limit
+abbrev pub IsLimit : Ending → Type 0
+IsLimit Done = ⊥
+IsLimit (MalformedLine number place) = ⊥
+IsLimit (LaterLine number) = ⊥
+IsLimit (Limit limit) = Unit {0}

@@ -1,0 +1,13 @@
+//! Plays a script.
+#![tactic(auto)]
+
+mod ending;
+mod machine;
+mod player;
+mod status;
+mod texts;
+
+pub use ending::{Ending, Fault};
+pub use machine::Machine;
+pub use player::play;
+pub use status::{fault_status, status};

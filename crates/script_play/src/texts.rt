@@ -1,0 +1,22 @@
+ghost use Rattle.std.specs.Prelude.{◌≡◌, ◌++◌, OnOk, string_bytes};
+ghost use Rattle.script_play.specs.Texts.{malformed_text, not_built_text, limit_text};
+
+use std::alloc::AllocError;
+
+pub fn put_malformed(text: &mut String, number: u64) -> Result<(), AllocError>
+    ensures { OnOk result (string_bytes text.new ≡ string_bytes text.old ++ malformed_text number) }
+{
+    write!(text, "{number} malformed\n")
+}
+
+pub fn put_not_built(text: &mut String, number: u64) -> Result<(), AllocError>
+    ensures { OnOk result (string_bytes text.new ≡ string_bytes text.old ++ not_built_text number) }
+{
+    write!(text, "{number} not built\n")
+}
+
+pub fn put_limit(text: &mut String, number: u64, limit: u64) -> Result<(), AllocError>
+    ensures { OnOk result (string_bytes text.new ≡ string_bytes text.old ++ limit_text number limit) }
+{
+    write!(text, "{number} limit {limit}\n")
+}

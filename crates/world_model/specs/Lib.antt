@@ -1,0 +1,4 @@
+pub mod Pools
+pub mod Texts
+pub mod Turns
+pub mod Worlds

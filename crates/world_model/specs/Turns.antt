@@ -1,0 +1,158 @@
+-- What each line of a script prints, and the world after it.
+use Rattle.std.specs.Prelude.{ℕ, zero, suc, ◌+◌, ◌-◌, nat_lt, List, [], ◌∷◌, ◌++◌, length, map, codes, position, slice_get, Option, Some, None, Result, Ok, Err, if◌then◌else◌}
+use Rattle.std.specs.List.{flat_map}
+use Rattle.ord_types.specs.declared.values.Mode.TheVariants.{Normal}
+use Rattle.ord_types.specs.declared.values.Kind.TheVariants.{Bft}
+use Rattle.ord_types.specs.declared.values.ReqKind.TheVariants.{Ordinary}
+use Rattle.safety_model.specs.Blocks.{Config, Request}
+use Rattle.script.specs.declared.command.Command.{Command}
+use Rattle.script.specs.declared.command.Command.TheVariants.{Genesis, Submit, Tick, Deliver, Flush}
+use Rattle.script.specs.declared.command.Range.{Range}
+use Rattle.script_play.specs.declared.ending.Ending.{Ending}
+use Rattle.script_play.specs.declared.ending.Ending.TheVariants.{Limit}
+use Rattle.script_play.specs.Turns.{Turn}
+use Rattle.node_model.specs.Steps.{Event}
+use Rattle.world_model.specs.Pools.{Answer, answer, pool_after}
+use Rattle.world_model.specs.Worlds.{Setting, World, Node, Entry, node_at, with_node, making, world_after, tick_of, entry, letter_from, marked, is_waiting}
+use Rattle.world_model.specs.Texts.{genesis_text, tick_text, deliver_text, flush_text, refused_text, limit_text, answer_text, fact_text, sent_text, closing_line}
+
+abbrev pub says : {W : Type 0} → List ℕ → W → Turn W
+says text w = record { printed = text; next = Ok w }
+
+-- a turn, and one from the world after it
+abbrev pub then_on : {V W : Type 0} → List ℕ → Result V Ending → (V → Turn W) → Turn W
+then_on printed (Ok w) rest = record { printed = printed ++ (rest w).printed; next = (rest w).next }
+then_on printed (Err ending) rest = record { printed = printed; next = Err ending }
+
+abbrev pub goes_on : {V W : Type 0} → Turn V → (V → Turn W) → Turn W
+goes_on turn rest = then_on turn.printed turn.next rest
+
+abbrev pub refuses : {W : Type 0} → ℕ → List ℕ → W → Turn W
+refuses number reason w = says (refused_text number reason) w
+
+-- AN EVENT prints its blocks; the network has its limit
+
+abbrev pub most_entries : ℕ
+most_entries = 1000000
+
+abbrev pub within_limit : {S T : Type 0} → ℕ → List ℕ → World S T → Turn (World S T)
+within_limit number blocks w =
+    if nat_lt most_entries (length w.network)
+    then record { printed = blocks ++ limit_text number most_entries; next = Err (Limit most_entries) } else says blocks w
+
+unfoldable pub event_turn : {S T : Type 0} → Setting S T → ℕ → World S T → Node S → Event → Turn (World S T)
+event_turn setting number w node event =
+    within_limit number (flat_map (fact_text number) (making setting w node event).facts) (world_after setting w node (making setting w node event))
+
+-- TICK
+
+abbrev pub tick_at : {S T : Type 0} → Setting S T → ℕ → World S T → Option (Node S) → Turn (World S T)
+tick_at setting number w None = says [] w
+tick_at setting number w (Some node) = event_turn setting number w node (tick_of setting.ways node)
+
+unfoldable pub ticks : {S T : Type 0} → Setting S T → ℕ → ℕ → ℕ → World S T → Turn (World S T)
+ticks setting number id zero w = says (tick_text number id) w
+ticks setting number id (suc n) w = goes_on (tick_at setting number w (node_at id w.nodes)) (λ next. ticks setting number id n next)
+
+-- DELIVER
+
+-- the entry at place k, counted from 0, comes to its receiver
+abbrev pub delivery_to : {S T : Type 0} → Setting S T → ℕ → Entry → World S T → Option (Node S) → Turn (World S T)
+delivery_to setting number e w None = says [] w
+delivery_to setting number e w (Some node) = event_turn setting number w node (letter_from e)
+
+abbrev pub delivery : {S T : Type 0} → Setting S T → ℕ → ℕ → Entry → World S T → Turn (World S T)
+delivery setting number k e w = delivery_to setting number e (marked k e w) (node_at e.to w.nodes)
+
+-- n entries from number k on, then the rest with the count
+unfoldable pub deliveries : {S T : Type 0} → Setting S T → ℕ → ℕ → ℕ → ℕ → World S T → (ℕ → World S T → Turn (World S T)) → Turn (World S T)
+deliveries setting number zero k count w rest = rest count w
+deliveries setting number (suc n) k count w rest =
+    elim (entry k w) [
+      | None ↦ refuses number (codes "no entry") w
+      | Some e ↦ goes_on (delivery setting number (k - 1) e w) (λ next. deliveries setting number n (k + 1) (count + 1) next rest)
+    ]
+
+unfoldable pub deliver_turn : {S T : Type 0} → Setting S T → ℕ → List Range → ℕ → World S T → Turn (World S T)
+deliver_turn setting number [] count w = says (deliver_text number count) w
+deliver_turn setting number (range ∷ ranges) count w =
+    deliveries setting number (range.last + 1 - range.first) range.first count w (λ more next. deliver_turn setting number ranges more next)
+
+-- FLUSH: at most 10,000 entries, each time the least that waits
+
+abbrev pub most_flushed : ℕ
+most_flushed = 10000
+
+abbrev pub flushes : {S T : Type 0} → Setting S T → ℕ → World S T → Option ℕ → Turn (World S T) → (World S T → Turn (World S T)) → Turn (World S T)
+flushes setting number w None done rest = done
+flushes setting number w (Some k) done rest =
+    elim (slice_get w.network k) [ None ↦ done | Some e ↦ goes_on (delivery setting number k e w) rest ]
+
+unfoldable pub flush_turn : {S T : Type 0} → Setting S T → ℕ → Option (List ℕ) → ℕ → ℕ → World S T → Turn (World S T)
+flush_turn setting number only zero count w = says (flush_text number count) w
+flush_turn setting number only (suc n) count w =
+    flushes setting number w (position (is_waiting only) w.network) (says (flush_text number count) w)
+    (λ next. flush_turn setting number only n (count + 1) next)
+
+-- SUBMIT
+
+abbrev pub submitted : {S : Type 0} → Node S → Request → Node S
+submitted node r = record { id = node.id; state = node.state; pool = pool_after node.pool r (answer node.pool r) }
+
+abbrev pub submit_turn : {S T : Type 0} → ℕ → World S T → Node S → Request → Turn (World S T)
+submit_turn number w node r = says (answer_text number node.id (answer node.pool r)) (record w { nodes = with_node (submitted node r) w.nodes })
+
+abbrev pub ordinary : ℕ → ℕ → List ℕ → Request
+ordinary client serial payload = record { kind = Ordinary; id = record { client = client; serial = serial }; payload = payload }
+
+-- GENESIS
+
+abbrev pub first_config : List ℕ → Config
+first_config members =
+    record {
+      number = 0;
+      kind = Bft;
+      mode = Normal;
+      members = members;
+      batch = record { count = 1; preferred = 524288; absolute = 1048576; wait = 10 };
+      rotation = 0;
+    }
+
+abbrev pub first_world : {S T : Type 0} → Setting S T → Config → World S T
+first_world setting c =
+    record {
+      config = c;
+      nodes = map (λ id. record { id = id; state = setting.ways.opens c id; pool = [] }) c.members;
+      network = [];
+      seals = [];
+      told = setting.silent;
+    }
+
+-- A COMMAND
+
+-- a line about a node that is nowhere in the world is refused
+abbrev pub at_node : {S T : Type 0} → ℕ → World S T → Option (Node S) → (Node S → Turn (World S T)) → Turn (World S T)
+at_node number w None turn = refuses number (codes "unknown node") w
+at_node number w (Some node) turn = turn node
+
+abbrev pub turn_in : {S T : Type 0} → Setting S T → ℕ → World S T → Command → Turn (World S T)
+turn_in setting number w (Genesis members) = refuses number (codes "second genesis") w
+turn_in setting number w (Submit id client serial payload) =
+    at_node number w (node_at id w.nodes) (λ node. submit_turn number w node (ordinary client serial payload))
+turn_in setting number w (Tick id count) = at_node number w (node_at id w.nodes) (λ node. ticks setting number id count w)
+turn_in setting number w (Deliver ranges) = deliver_turn setting number ranges 0 w
+turn_in setting number w (Flush only) = flush_turn setting number only most_flushed 0 w
+
+abbrev pub some_world : {S T : Type 0} → World S T → Turn (Option (World S T))
+some_world w = says [] (Some w)
+
+-- the turn of a line, where there may be no world yet
+unfoldable pub turn_of : {S T : Type 0} → Setting S T → Option (World S T) → ℕ → Command → Turn (Option (World S T))
+turn_of setting None number (Genesis members) = says (genesis_text number) (Some (first_world setting (first_config members)))
+turn_of setting None number _ = refuses number (codes "no world") None
+turn_of setting (Some w) number command = goes_on (turn_in setting number w command) some_world
+
+-- the closing lines
+unfoldable pub closing_of : {S T : Type 0} → Setting S T → Option (World S T) → List ℕ
+closing_of setting None = sent_text 0
+closing_of setting (Some w) = flat_map (closing_line setting.ways) w.nodes ++ sent_text (length w.network)

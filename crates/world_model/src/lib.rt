@@ -1,0 +1,2 @@
+//! The world of a script, and its text.
+#![tactic(auto)]
