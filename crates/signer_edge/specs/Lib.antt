@@ -1,0 +1,5 @@
+pub mod Accepts
+pub mod Certificates
+pub mod Seals
+pub mod Signing
+pub mod Statements
