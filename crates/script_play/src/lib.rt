@@ -4,10 +4,10 @@
 mod ending;
 mod machine;
 mod player;
-mod status;
+mod statuses;
 mod texts;
 
 pub use ending::{Ending, Fault};
 pub use machine::Machine;
 pub use player::play;
-pub use status::{fault_status, status};
+pub use statuses::{fault_status, status};
