@@ -1,12 +1,16 @@
 //! The values of the ordering service, their bytes and hashes, and the traits of what stands outside.
 #![tactic(auto)]
 
+mod hashes;
+mod layouts;
 mod lists;
 mod members;
 mod memory;
 mod outside;
 mod values;
+mod writing;
 
+pub use hashes::{block_hash, content_hash, meta_hash};
 pub use lists::{Bytes, Copied, List, NoMemory};
 pub use members::{fault_bound, majority, quorum};
 pub use memory::{MemSink, MemSource};
