@@ -41,7 +41,7 @@ pub(crate) fn write_meta<W: Writer>(writer: &mut W, meta: &Meta)
     write_ids(writer, &meta.signers);
 }
 
-fn kind_number(kind: ReqKind) -> u8
+fn request_kind_number(kind: ReqKind) -> u8
     ensures { result ≡ request_kind_number kind }
 {
     match kind {
@@ -50,12 +50,12 @@ fn kind_number(kind: ReqKind) -> u8
     }
 }
 
-fn write_request<W: Writer>(writer: &mut W, request: &Request)
+pub(crate) fn write_request<W: Writer>(writer: &mut W, request: &Request)
     requires { FitsRequest request.now }
     ensures { W.took writer.old writer.new (request_text request.now) }
 {
     let length = request.payload.len() as u32;
-    writer.put_u8(kind_number(request.kind));
+    writer.put_u8(request_kind_number(request.kind));
     writer.put_u32(request.id.client);
     writer.put_u64(request.id.serial);
     writer.put_u32(length);
@@ -71,4 +71,75 @@ pub(crate) fn write_requests<W: Writer>(writer: &mut W, requests: &List<Request>
     for request in requests.as_slice() {
         write_request(writer, request);
     }
+}
+
+fn write_batch<W: Writer>(writer: &mut W, batch: &Batch)
+    ensures { W.took writer.old writer.new (batch_text batch.now) }
+{
+    writer.put_u32(batch.count);
+    writer.put_u32(batch.preferred);
+    writer.put_u32(batch.absolute);
+    writer.put_u32(batch.wait);
+}
+
+fn kind_number(kind: Kind) -> u8
+    ensures { result ≡ kind_number kind }
+{
+    match kind {
+        Kind::Raft => 1,
+        Kind::Bft => 2,
+    }
+}
+
+fn mode_number(mode: Mode) -> u8
+    ensures { result ≡ mode_number mode }
+{
+    match mode {
+        Mode::Normal => 0,
+        Mode::Maintenance => 1,
+    }
+}
+
+pub(crate) fn write_config<W: Writer>(writer: &mut W, config: &Config)
+    requires { FitsConfig config.now }
+    ensures { W.took writer.old writer.new (config_text config.now) }
+{
+    writer.put_u8(1);
+    writer.put_u64(config.number);
+    writer.put_u8(kind_number(config.kind));
+    writer.put_u8(mode_number(config.mode));
+    write_ids(writer, &config.members);
+    write_batch(writer, &config.batch);
+    writer.put_u32(config.rotation);
+}
+
+pub(crate) fn write_sig<W: Writer>(writer: &mut W, sig: &Sig)
+    requires { FitsSig sig.now }
+    ensures { W.took writer.old writer.new (sig_text sig.now) }
+{
+    let length = sig.bytes.len() as u16;
+    writer.put_u32(sig.signer);
+    writer.put_u16(length);
+    writer.put(sig.bytes.as_slice());
+}
+
+pub(crate) fn write_cert<W: Writer>(writer: &mut W, cert: &Cert)
+    requires { FitsCert cert.now }
+    ensures { W.took writer.old writer.new (cert_text cert.now) }
+{
+    let count = cert.sigs.len() as u8;
+    writer.put_u64(cert.view);
+    writer.put_u8(count);
+    for sig in cert.sigs.as_slice() {
+        write_sig(writer, sig);
+    }
+}
+
+pub(crate) fn write_block<W: Writer>(writer: &mut W, block: &Block)
+    requires { FitsBlock block.now }
+    ensures { W.took writer.old writer.new (block_text block.now) }
+{
+    write_header(writer, &block.header);
+    write_requests(writer, &block.requests);
+    write_meta(writer, &block.meta);
 }
