@@ -1,6 +1,7 @@
 //! The values of the ordering service, their bytes and hashes, and the traits of what stands outside.
 #![tactic(auto)]
 
+mod genesis;
 mod hashes;
 mod layouts;
 mod lists;
@@ -11,6 +12,7 @@ mod spelling;
 mod values;
 mod writing;
 
+pub use genesis::genesis_block;
 pub use hashes::{block_hash, content_hash, meta_hash};
 pub use lists::{Bytes, Copied, List, NoMemory};
 pub use members::{fault_bound, majority, quorum};
