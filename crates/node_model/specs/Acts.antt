@@ -18,7 +18,9 @@ use Rattle.node_model.specs.Checks.{is_next_block, is_carried_good, is_block_of_
 -- what a member holds of one configuration, view and height
 pub record View : Type 0 where
   pub me : ℕ
+  -- the number and the members of the configuration
   pub config : ℕ
+  pub members : List ℕ
   pub height : ℕ
   -- the view that it entered, and the greatest that it left for
   pub view : ℕ

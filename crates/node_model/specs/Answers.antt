@@ -1,6 +1,7 @@
 -- What the calls on a view answer: the act that is due, Kept, or the first reason that holds; and what they leave.
 use Rattle.std.specs.Prelude.{ℕ, ◌+◌, Bool, true, false, ◌&&◌, ◌||◌, ◌==◌, nat_lt, nat_le, not, is_some, is_none, List, [], ◌∷◌, ◌++◌, length, filter, Option, Some, None, if◌then◌else◌}
 use Rattle.std.specs.List.{list_any}
+use Rattle.std.specs.Str.{bytes_eq}
 use Rattle.ord_types.specs.Members.{is_in, is_raft}
 use Rattle.safety_model.specs.Blocks.{Block, Request}
 use Rattle.signer_edge.specs.Accepts.{Accepts}
@@ -15,29 +16,50 @@ use Rattle.node_model.specs.Leading.{Place, leader}
 use Rattle.node_model.specs.Checks.{is_next_block, is_block_of_view, is_carried_good}
 use Rattle.node_model.specs.Acts.{Act, View, is_inside_view, proposed, proposal, preparation_due, accept_act, prepare_act, due}
 
--- AT A PLACE: under another configuration nothing is left of what was held, at another height nothing of lower numbers
+-- AT A PLACE: under another configuration nothing is left of what was held, at another height nothing of other numbers
+
+-- a node that stands nowhere yet
+abbrev pub unplaced : ℕ → View
+unplaced me =
+    record { me = me; config = 0; members = []; height = 0; view = 0; left = 0; accepted = None; is_prepared = false; kept = [] }
 
 abbrev pub fresh : ℕ → Place → View
 fresh me place =
-    record { me = me; config = place.config.number; height = place.height; view = 0; left = 0; accepted = None; is_prepared = false; kept = [] }
+    record {
+      me = me;
+      config = place.config.number;
+      members = place.config.members;
+      height = place.height;
+      view = 0;
+      left = 0;
+      accepted = None;
+      is_prepared = false;
+      kept = [];
+    }
+
+-- a vote message that a node at this height may keep: it names the height or the number above
+abbrev pub is_near : ℕ → Letter → Bool
+is_near height letter = (number_in letter.message == height) || (number_in letter.message == height + 1)
 
 abbrev pub raised : Place → View → View
 raised place w =
     record {
       me = w.me;
       config = w.config;
+      members = w.members;
       height = place.height;
       view = w.view;
       left = w.left;
       accepted = None;
       is_prepared = false;
-      kept = filter (λ letter. nat_le place.height (number_in letter.message)) w.kept;
+      kept = filter (is_near place.height) w.kept;
     }
 
+abbrev pub is_same_config : Place → View → Bool
+is_same_config place w = (w.config == place.config.number) && bytes_eq w.members place.config.members
+
 abbrev pub at_place : Place → View → View
-at_place place w =
-    if not (w.config == place.config.number) then fresh w.me place
-    else (if w.height == place.height then w else raised place w)
+at_place place w = if is_same_config place w then (if w.height == place.height then w else raised place w) else fresh w.me place
 
 -- KEEPING A MESSAGE
 

@@ -1,18 +1,15 @@
 -- What a proposed block and the certificate that comes with it must be at a place.
-use Rattle.std.specs.Prelude.{ℕ, ◌+◌, ◌-◌, Bool, false, ◌&&◌, ◌==◌, nat_lt, List, [], Option, Some, None}
-use Rattle.std.specs.Str.{bytes_eq}
+use Rattle.std.specs.Prelude.{ℕ, ◌-◌, Bool, ◌&&◌, nat_lt, List, [], Option, Some, None}
 use Rattle.ord_types.specs.declared.values.Cert.{Cert}
-use Rattle.safety_model.specs.Blocks.{Block, hashes_fit, is_lawful}
-use Rattle.safety_model.specs.Facts.{signers_of}
+use Rattle.safety_model.specs.Blocks.{Block, is_next_at}
 use Rattle.signer_edge.specs.Accepts.{Accepts}
-use Rattle.signer_edge.specs.Certificates.{is_good_cert}
+use Rattle.signer_edge.specs.Certificates.{is_good_cert, signers_of}
 use Rattle.node_model.specs.Letters.{PrePrepare}
 use Rattle.node_model.specs.Leading.{Place, is_at_start, next_meta, meta_eq}
 
--- the block may come next at the place: its number, the block before it, its hashes, and what it orders
-unfoldable pub is_next_block : Place → Block → Bool
-is_next_block place b =
-    (b.header.number == place.height) && bytes_eq b.header.previous place.last && hashes_fit b && is_lawful place.config b
+-- the block may come next at the place
+abbrev pub is_next_block : Place → Block → Bool
+is_next_block place b = is_next_at place.last place.height place.config b
 
 abbrev pub signers_carried : Option Cert → List ℕ
 signers_carried None = []

@@ -1,0 +1,12 @@
+//! What a member does in one view: it keeps vote messages, and accepts, prepares and delivers blocks (SmartBFT).
+#![tactic(auto)]
+
+mod blocks;
+mod calls;
+mod counts;
+mod held;
+mod keeping;
+mod proposals;
+
+pub use held::ViewState;
+pub use node_model::Act;
