@@ -115,13 +115,11 @@ impl Signer for SealSeat {
     }
 
     fn sign(&mut self, statement: &[u8]) -> Result<Sig, SignFault> {
-        match self.seals.add(self.id, statement) {
-            Ok(bytes) => Ok(Sig {
-                signer: self.id,
-                bytes,
-            }),
-            Err(NoMemory) => Err(SignFault::NoMemory),
-        }
+        let bytes = self.seals.add(self.id, statement)?;
+        Ok(Sig {
+            signer: self.id,
+            bytes,
+        })
     }
 }
 

@@ -1,5 +1,7 @@
-ghost use Rattle.std.specs.Prelude.{◌≡◌, ◌≤◌, ◌↔◌, ℕ, length, map, is_ok, IsOk};
+ghost use Rattle.std.specs.Prelude.{◌≡◌, ◌≤◌, ◌↔◌, ◌==◌, ℕ, length, map, is_ok, IsOk};
 ghost use Rattle.std.specs.Result.{result_err};
+ghost use Rattle.std.specs.List.{list_any};
+ghost use Rattle.ord_types.specs.declared.values.Sig.{Sig};
 ghost use Rattle.ord_types.specs.Members.{how_many_in};
 ghost use Rattle.signer_edge.specs.Certificates.{
   IsCertificate,
@@ -77,9 +79,16 @@ fn count_signers(members: &List<u32>, sigs: &List<Sig>) -> u32
 {
     let mut count = 0;
     for member in members.as_slice() {
-        if sigs.as_slice().iter().any(|sig| sig.signer == *member) {
+        if has_signed(sigs, *member) {
             count += 1;
         }
     }
     count
+}
+
+/// Whether one of the signatures is this signer's.
+fn has_signed(sigs: &List<Sig>, signer: u32) -> bool
+    ensures { result ≡ list_any (λ (sig : Sig). sig.signer == signer) sigs.now }
+{
+    sigs.as_slice().iter().any(|sig| sig.signer == signer)
 }

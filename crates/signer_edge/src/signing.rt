@@ -9,7 +9,7 @@ ghost use Rattle.signer_edge.specs.Signing.{
   signed_after,
 };
 
-use ord_types::Sig;
+use ord_types::{NoMemory, Sig};
 
 /// Why nothing was signed.
 #[derive(Clone, Copy, Debug, PartialEq, Eq)]
@@ -17,6 +17,17 @@ pub enum SignFault {
     /// The device failed. The signer's count of faults says so too.
     Failed,
     NoMemory,
+}
+
+impl From<NoMemory> for SignFault {
+    ghost use Rattle.std.specs.Prelude.{◌≡◌};
+    ghost use Rattle.signer_edge.specs.declared.signing.SignFault.TheVariants.{NoMemory};
+
+    ghost from_gives = { λ _ fault. fault ≡ NoMemory };
+
+    fn from(_fault: NoMemory) -> SignFault {
+        SignFault::NoMemory
+    }
 }
 
 /// Signs for one member.

@@ -1,0 +1,3 @@
+pub mod CertificateFacts
+pub mod SealFacts
+pub mod StatementFacts
