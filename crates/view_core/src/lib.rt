@@ -2,11 +2,9 @@
 #![tactic(auto)]
 
 mod blocks;
-mod calls;
 mod counts;
 mod held;
 mod keeping;
-mod proposals;
 
 pub use held::ViewState;
 pub use node_model::Act;

@@ -1,0 +1,21 @@
+-- What a view keeps true of the vote messages that it holds.
+use Rattle.std.specs.Prelude.{◌≡◌, ℕ, ◌≤◌, Bool, false, ◌&&◌, ◌==◌, List, [], ◌∷◌, length, IsTrue}
+use Rattle.std.specs.List.{list_all, IsDistinct}
+use Rattle.ord_types.specs.Members.{is_in}
+use Rattle.node_model.specs.Letters.{Letter, same_slot, config_in, view_in}
+use Rattle.node_model.specs.Answers.{is_near}
+
+-- a vote message of one of these members, for this configuration and view, near the height
+abbrev pub is_held : ℕ → List ℕ → ℕ → ℕ → Letter → Bool
+is_held config members view height letter =
+    is_in letter.from members && (config_in letter.message == config) && (view_in letter.message == view) && is_near height letter
+
+-- at most 31 members, and one message of each member and kind for each number: there is room for all
+pub record IsHeld (config : ℕ) (members : List ℕ) (view height : ℕ) (kept : List Letter) : Type 0 where
+  pub few : length members ≤ 31
+  pub held : IsTrue (list_all (is_held config members view height) kept)
+  pub distinct : IsDistinct same_slot kept
+
+-- 31 members, three kinds, two numbers
+abbrev pub most_kept : ℕ
+most_kept = 186

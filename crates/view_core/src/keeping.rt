@@ -1,0 +1,110 @@
+//! Which vote messages are kept, and why others are not.
+ghost use Rattle.std.specs.Prelude.{◌≡◌, ◌+◌, ◌<◌, ◌^◌, ◌==◌, ◌||◌, ◌&&◌, true, Option};
+ghost use Rattle.std.specs.List.{list_any};
+ghost use Rattle.ord_types.specs.Members.{is_raft};
+ghost use Rattle.signer_edge.specs.Statements.{commit_text};
+ghost use Rattle.node_model.specs.Letters.{config_in, kind_of, number_in, same_slot, view_in};
+ghost use Rattle.node_model.specs.Answers.{first_reason, is_near, is_signed, stands_outside};
+
+use bft_wire::{Commit, Message, Reason};
+use node_model::Letter;
+use ord_types::{Config, Kind, Place};
+use signer_edge::{Verifier, commit_statement};
+
+pub(crate) fn is_raft(config: &Config) -> bool
+    ensures { result ≡ is_raft config.now }
+{
+    match config.kind {
+        Kind::Raft => true,
+        Kind::Bft => false,
+    }
+}
+
+fn kind_of(message: &Message) -> u8
+    ensures { result ≡ kind_of message.now }
+{
+    match message {
+        Message::PrePrepare(_) => 1,
+        Message::Prepare(_) => 2,
+        Message::Commit(_) => 3,
+    }
+}
+
+fn config_in(message: &Message) -> u64
+    ensures { result ≡ config_in message.now }
+{
+    match message {
+        Message::PrePrepare(m) => m.config,
+        Message::Prepare(m) => m.config,
+        Message::Commit(m) => m.config,
+    }
+}
+
+fn view_in(message: &Message) -> u64
+    ensures { result ≡ view_in message.now }
+{
+    match message {
+        Message::PrePrepare(m) => m.view,
+        Message::Prepare(m) => m.view,
+        Message::Commit(m) => m.view,
+    }
+}
+
+fn number_in(message: &Message) -> u64
+    ensures { result ≡ number_in message.now }
+{
+    match message {
+        Message::PrePrepare(m) => m.number,
+        Message::Prepare(m) => m.number,
+        Message::Commit(m) => m.number,
+    }
+}
+
+/// Whether two are of one member and kind, for one configuration, view and number.
+fn same_slot(a: &Letter, b: &Letter) -> bool
+    ensures { result ≡ same_slot a.now b.now }
+{
+    a.from == b.from
+        && kind_of(&a.message) == kind_of(&b.message)
+        && config_in(&a.message) == config_in(&b.message)
+        && view_in(&a.message) == view_in(&b.message)
+        && number_in(&a.message) == number_in(&b.message)
+}
+
+/// Whether a message of this member and kind is among these, for its view and number.
+pub(crate) fn has_slot(letters: &[Letter], letter: &Letter) -> bool
+    ensures { result ≡ list_any (same_slot letter.now) letters.now }
+{
+    letters.iter().any(|other| same_slot(letter, other))
+}
+
+/// Whether a vote message names the height or the number above.
+pub(crate) fn is_near(height: u64, letter: &Letter) -> bool
+    requires { height < 2 ^ 62 }
+    ensures { result ≡ is_near height letter.now }
+{
+    let number = number_in(&letter.message);
+    number == height || number == height + 1
+}
+
+/// Whether a Commit is signed by its sender.
+fn is_commit_signed<V: Verifier>(from: u32, commit: &Commit, verifier: &V) -> bool
+    ensures { result ≡ (commit.now.sig.signer == from) && V.accepts verifier.now (commit_text commit.now.config commit.now.view commit.now.number commit.now.digest) commit.now.sig }
+{
+    commit.sig.signer == from
+        && verifier.verify(
+            &commit_statement(commit.config, commit.view, commit.number, &commit.digest),
+            &commit.sig,
+        )
+}
+
+/// Whether a Commit is signed by its sender. Nothing is asked of other messages.
+pub(crate) fn is_signed<V: Verifier>(letter: &Letter, verifier: &V) -> bool
+    ensures { result ≡ is_signed (V.accepts verifier.now) letter.now.from letter.now.message }
+{
+    match &letter.message {
+        Message::PrePrepare(_) => true,
+        Message::Prepare(_) => true,
+        Message::Commit(commit) => is_commit_signed(letter.from, commit, verifier),
+    }
+}
