@@ -111,6 +111,10 @@ after_act (act_of.Deliver b cert) w = w
 after_act act_of.Kept w = w
 after_act (act_of.Nothing r) w = w
 
+abbrev pub after_told : Option Act → View → View
+after_told None w = w
+after_told (Some act) w = after_act act w
+
 -- THE ANSWERS
 
 abbrev pub act_or : Option Act → Act → Act
@@ -145,11 +149,15 @@ vote_answer accepts place w letter =
     act_or (due accepts place (kept_after accepts place w letter))
     (kept_or (is_new accepts place w letter) (first_reason (stands_outside place w letter ++ message_reasons accepts place w letter.from letter.message)) reason.Repeat)
 
--- on_prepare: without a verifier only a preparation can be told
-abbrev pub prepare_answer : Accepts → Place → View → Letter → Act
-prepare_answer accepts place w letter =
-    act_or (prepare_act (preparation_due place (kept_after accepts place w letter)))
-    (kept_or (is_new accepts place w letter) (first_reason (stands_outside place w letter)) reason.Repeat)
+-- nothing is accepted
+abbrev pub accepts_nothing : Accepts
+accepts_nothing statement sig = false
+
+-- on_prepare: without a verifier only a preparation can be told. Nothing is asked of a Prepare's signature, since it has none.
+abbrev pub prepare_answer : Place → View → Letter → Act
+prepare_answer place w letter =
+    act_or (prepare_act (preparation_due place (kept_after accepts_nothing place w letter)))
+    (kept_or (is_new accepts_nothing place w letter) (first_reason (stands_outside place w letter)) reason.Repeat)
 
 abbrev pub own_reasons : Place → View → Reasons
 own_reasons place w =
@@ -178,8 +186,8 @@ due_answer accepts place w = act_or (due accepts place w) (reason_or (first_reas
 abbrev pub after_vote : Accepts → Place → View → Letter → View
 after_vote accepts place w letter = after_act (vote_answer accepts place (at_place place w) letter) (kept_after accepts place (at_place place w) letter)
 
-abbrev pub after_prepare : Accepts → Place → View → Letter → View
-after_prepare accepts place w letter = after_act (prepare_answer accepts place (at_place place w) letter) (kept_after accepts place (at_place place w) letter)
+abbrev pub after_prepare : Place → View → Letter → View
+after_prepare place w letter = after_act (prepare_answer place (at_place place w) letter) (kept_after accepts_nothing place (at_place place w) letter)
 
 abbrev pub after_propose : Place → View → List Request → View
 after_propose place w rs = after_act (propose_answer place (at_place place w) rs) (at_place place w)

@@ -2,7 +2,8 @@
 use Rattle.std.specs.Prelude.{◌≡◌, ℕ, ◌≤◌, Bool, false, ◌&&◌, ◌==◌, List, [], ◌∷◌, length, IsTrue}
 use Rattle.std.specs.List.{list_all, IsDistinct}
 use Rattle.ord_types.specs.Members.{is_in}
-use Rattle.node_model.specs.Letters.{Letter, same_slot, config_in, view_in}
+use Rattle.node_model.specs.Letters.{same_slot, config_in, view_in}
+use Rattle.node_model.specs.declared.letter.Letter.{Letter}
 use Rattle.node_model.specs.Answers.{is_near}
 
 -- a vote message of one of these members, for this configuration and view, near the height

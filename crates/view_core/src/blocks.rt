@@ -2,8 +2,12 @@
 ghost use Rattle.std.specs.Prelude.{◌≡◌, ◌+◌, ◌<◌, ◌≤◌, ◌^◌, option_copied, length};
 ghost use Rattle.std.specs.Str.{bytes_eq};
 ghost use Rattle.node_model.specs.Checks.{
-    is_acceptable, is_block_of_view, is_carried_good, is_next_block, signers_carried,
+  is_block_of_view,
+  is_carried_good,
+  is_next_block,
+  signers_carried,
 };
+ghost use Rattle.node_model.specs.Acts.{is_acceptable};
 ghost use Rattle.node_model.specs.Leading.{is_at_start, meta_eq, next_meta, turn};
 ghost use Rattle.view_core.specs.Places.{IsPlace};
 
@@ -49,7 +53,7 @@ fn is_last_proved<V: Verifier>(place: &Place, cert: &Cert, verifier: &V) -> bool
 }
 
 /// Whether a proposal carries what it must: the last block's certificate, and none at the start.
-fn is_carried_good<V: Verifier>(place: &Place, cert: &Option<Cert>, verifier: &V) -> bool
+pub(crate) fn is_carried_good<V: Verifier>(place: &Place, cert: &Option<Cert>, verifier: &V) -> bool
     requires { IsPlace place.now }
     ensures { result ≡ is_carried_good (V.accepts verifier.now) place.now cert.now }
 {
@@ -98,7 +102,7 @@ fn is_meta(place: &Place, view: u64, meta: &Meta, cert: &Option<Cert>) -> bool
 }
 
 /// Whether the block is the next one, with the meta that belongs to the view.
-fn is_block_of_view(place: &Place, view: u64, message: &PrePrepare) -> bool
+pub(crate) fn is_block_of_view(place: &Place, view: u64, message: &PrePrepare) -> bool
     requires { IsPlace place.now }
     ensures { result ≡ is_block_of_view place.now view message.now }
 {

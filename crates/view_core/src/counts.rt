@@ -4,7 +4,12 @@ ghost use Rattle.std.specs.List.{list_any};
 ghost use Rattle.ord_types.specs.Members.{how_many, is_in};
 ghost use Rattle.node_model.specs.Letters.{is_commit_for, is_prepare_for, proposal_in};
 ghost use Rattle.node_model.specs.Acts.{
-    has_prepare, is_members_prepare, kept_proposal, kept_sig, proposal_of, sig_of,
+  has_prepare,
+  is_members_prepare,
+  kept_proposal,
+  kept_sig,
+  proposal_of,
+  sig_of,
 };
 
 use bft_wire::{Message, PrePrepare};
@@ -87,12 +92,7 @@ fn sig_of<'a>(letter: &'a Letter, member: u32, number: u64, digest: &Digest) -> 
 }
 
 /// The signature of the kept one.
-fn kept_sig<'a>(
-    letters: &'a [Letter],
-    member: u32,
-    number: u64,
-    digest: &Digest,
-) -> Option<&'a Sig>
+fn kept_sig<'a>(letters: &'a [Letter], member: u32, number: u64, digest: &Digest) -> Option<&'a Sig>
     ensures { option_copied result ≡ kept_sig number digest.now letters.now member }
 {
     for letter in letters {
@@ -104,7 +104,12 @@ fn kept_sig<'a>(
 }
 
 /// How many members' Commits for the digest are kept.
-pub(crate) fn commit_count(members: &[u32], number: u64, letters: &[Letter], digest: &Digest) -> usize
+pub(crate) fn commit_count(
+    members: &[u32],
+    number: u64,
+    letters: &[Letter],
+    digest: &Digest,
+) -> usize
     ensures { result ≡ length (filter_map (kept_sig number digest.now letters.now) members.now) }
 {
     let mut count = 0;

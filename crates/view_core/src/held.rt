@@ -44,15 +44,15 @@ impl Model for ViewState {
     ghost Value = { View };
 
     ghost view = { λ s. record {
-        me = s.me;
-        config = s.config;
-        members = s.members.items;
-        height = s.height;
-        view = s.view;
-        left = s.left;
-        accepted = option_map (λ a. a.block) s.accepted;
-        is_prepared = s.is_prepared;
-        kept = s.kept.items;
+      me = s.me;
+      config = s.config;
+      members = s.members.items;
+      height = s.height;
+      view = s.view;
+      left = s.left;
+      accepted = option_map (λ a. a.block) s.accepted;
+      is_prepared = s.is_prepared;
+      kept = s.kept.items;
     } };
 
     ghost invariant = { λ s.

@@ -4,8 +4,10 @@ ghost use Rattle.std.specs.List.{list_any};
 ghost use Rattle.ord_types.specs.Members.{is_raft};
 ghost use Rattle.signer_edge.specs.Statements.{commit_text};
 ghost use Rattle.node_model.specs.Letters.{config_in, kind_of, number_in, same_slot, view_in};
+ghost use Rattle.node_model.specs.Acts.{View};
 ghost use Rattle.node_model.specs.Answers.{first_reason, is_near, is_signed, stands_outside};
 
+use crate::counts::is_among;
 use bft_wire::{Commit, Message, Reason};
 use node_model::Letter;
 use ord_types::{Config, Kind, Place};
@@ -106,5 +108,28 @@ pub(crate) fn is_signed<V: Verifier>(letter: &Letter, verifier: &V) -> bool
         Message::PrePrepare(_) => true,
         Message::Prepare(_) => true,
         Message::Commit(commit) => is_commit_signed(letter.from, commit, verifier),
+    }
+}
+
+/// Why a vote message is not one of this view and these numbers.
+pub(crate) fn outside(place: &Place, view: u64, left: u64, letter: &Letter) -> Option<Reason>
+    requires { place.now.height < 2 ^ 62 }
+    ensures { (w : View) → w.view ≡ view → w.left ≡ left → result ≡ first_reason (stands_outside place.now w letter.now) }
+{
+    let number = number_in(&letter.message);
+    if !is_among(place.config.members.as_slice(), letter.from) {
+        Some(Reason::NotMember)
+    } else if is_raft(&place.config) || config_in(&letter.message) != place.config.number {
+        Some(Reason::OtherConfig)
+    } else if view_in(&letter.message) != view {
+        Some(Reason::OtherView)
+    } else if view < left {
+        Some(Reason::Leaving)
+    } else if number < place.height {
+        Some(Reason::OldNumber)
+    } else if place.height + 1 < number {
+        Some(Reason::FarNumber)
+    } else {
+        None
     }
 }

@@ -2,9 +2,12 @@
 #![tactic(auto)]
 
 mod blocks;
+mod calls;
 mod counts;
+mod dues;
 mod held;
 mod keeping;
+mod proposals;
 
 pub use held::ViewState;
 pub use node_model::Act;

@@ -1,0 +1,328 @@
+//! The calls on a view: what is due, and what a message or an offer brings.
+ghost use Rattle.std.specs.Prelude.{◌≡◌, ◌++◌, IfOk, OnOk, OnErr, false, Some, IsTrue};
+ghost use Rattle.bft_wire.specs.declared.message.Message.TheVariants as message_of;
+ghost use Rattle.bft_wire.specs.declared.reason.Reason.TheVariants as reason;
+ghost use Rattle.node_model.specs.declared.act.Act.TheVariants as act_of;
+ghost use Rattle.node_model.specs.Acts.{due};
+ghost use Rattle.node_model.specs.Answers.{
+  act_or,
+  after_act,
+  after_due,
+  after_prepare,
+  after_propose,
+  after_told,
+  after_vote,
+  at_place,
+  due_answer,
+  first_reason,
+  is_new,
+  is_repeat,
+  keep,
+  message_reasons,
+  own_reasons,
+  prepare_answer,
+  propose_answer,
+  proposal_reasons,
+  reason_or,
+  stands_outside,
+  vote_answer,
+};
+ghost use Rattle.view_core.specs.Held.{is_held};
+ghost use Rattle.view_core.specs.Places.{IsPlace};
+
+use crate::blocks::{is_block_of_view, is_carried_good};
+use crate::counts::is_among;
+use crate::dues::leader;
+use crate::held::{Accepted, ViewState};
+use crate::keeping::{has_slot, is_raft, is_signed, outside};
+use crate::proposals::proposed_block;
+use bft_wire::{Commit, Message, PrePrepare, Prepare, Reason};
+use node_model::{Act, Letter};
+use ord_types::{Block, Copied, List, NoMemory, Place, Request, block_hash};
+use signer_edge::Verifier;
+
+impl ViewState {
+    /// Takes the block as accepted.
+    fn accept(&mut self, block: &Block) -> Result<(), NoMemory>
+        ensures ok { OnOk result (self.new ≡ after_act (act_of.Accept block.now) self.old) }
+        ensures err { OnErr result (self.new ≡ self.old) }
+    {
+        let block = block.copy()?;
+        let digest = block_hash(&block.header);
+        self.accepted = Some(Accepted { block, digest });
+        Ok(())
+    }
+
+    /// The first of accept, prepare and deliver that is due. It stands as done from then on.
+    fn told<V: Verifier>(&mut self, place: &Place, verifier: &V) -> Result<Option<Act>, NoMemory>
+        requires { IsPlace place.now }
+        ensures told { IfOk result (λ act. act ≡ due (V.accepts verifier.now) place.now self.old) }
+        ensures after { IfOk result (λ act. self.new ≡ after_told act self.old) }
+        ensures err { OnErr result (self.new ≡ self.old) }
+    {
+        if let Some(block) = self.acceptance_due(place, verifier)? {
+            self.accept(&block)?;
+            return Ok(Some(Act::Accept(block)));
+        }
+        if let Some(digest) = self.preparation_due(place) {
+            self.is_prepared = true;
+            return Ok(Some(Act::Prepare(digest)));
+        }
+        match self.delivery_due(place)? {
+            Some((block, cert)) => Ok(Some(Act::Deliver(block, cert))),
+            None => Ok(None),
+        }
+    }
+
+    /// Whether the message is newly kept.
+    fn is_new<V: Verifier>(&self, place: &Place, letter: &Letter, verifier: &V) -> bool
+        requires { IsPlace place.now }
+        ensures { result ≡ is_new (V.accepts verifier.now) place.now self.now letter.now }
+    {
+        outside(place, self.view, self.left, letter).is_none()
+            && is_signed(letter, verifier)
+            && !has_slot(self.kept.as_slice(), letter)
+    }
+
+    /// Keeps a message, for which there is room.
+    fn keep(&mut self, letter: Letter)
+        requires held { IsTrue (is_held self.old.config self.old.members self.old.view self.old.height letter) }
+        requires new { is_repeat self.old letter ≡ false }
+        ensures { self.new ≡ keep letter self.old }
+    {
+        self.kept.push_reserved(letter);
+    }
+
+    /// Why a proposal at the height is no act, where its place is right.
+    fn proposal_refusal<V: Verifier>(
+        &self,
+        place: &Place,
+        from: u32,
+        message: &PrePrepare,
+        verifier: &V,
+    ) -> Act
+        requires { IsPlace place.now }
+        ensures { result ≡ reason_or (first_reason (proposal_reasons (V.accepts verifier.now) place.now self.now from message.now)) reason.Repeat }
+    {
+        if from != leader(place, self.view) {
+            Act::Nothing(Reason::NotLeader)
+        } else if self.accepted.is_some() {
+            Act::Nothing(Reason::Accepted)
+        } else if !is_block_of_view(place, self.view, message) {
+            Act::Nothing(Reason::BadBlock)
+        } else if !is_carried_good(place, &message.cert, verifier) {
+            Act::Nothing(Reason::BadCert)
+        } else {
+            Act::Nothing(Reason::Repeat)
+        }
+    }
+
+    /// Why a message that isn't newly kept brings nothing.
+    fn refusal<V: Verifier>(&self, place: &Place, letter: &Letter, verifier: &V) -> Act
+        requires { IsPlace place.now }
+        ensures { result ≡ reason_or (first_reason (stands_outside place.now self.now letter.now ++ message_reasons (V.accepts verifier.now) place.now self.now letter.now.from letter.now.message)) reason.Repeat }
+    {
+        if let Some(reason) = outside(place, self.view, self.left, letter) {
+            return Act::Nothing(reason);
+        }
+        match &letter.message {
+            Message::PrePrepare(message) => {
+                if message.number == place.height {
+                    self.proposal_refusal(place, letter.from, message, verifier)
+                } else {
+                    Act::Nothing(Reason::Repeat)
+                }
+            }
+            Message::Prepare(_) => Act::Nothing(Reason::Repeat),
+            Message::Commit(_) => {
+                if is_signed(letter, verifier) {
+                    Act::Nothing(Reason::Repeat)
+                } else {
+                    Act::Nothing(Reason::BadSignature)
+                }
+            }
+        }
+    }
+
+    /// What a message that is newly kept brings.
+    fn new_vote<V: Verifier>(
+        &mut self,
+        place: &Place,
+        letter: Letter,
+        verifier: &V,
+    ) -> Result<Act, NoMemory>
+        requires place { IsPlace place.now }
+        requires held { IsTrue (is_held self.old.config self.old.members self.old.view self.old.height letter) }
+        requires new { is_repeat self.old letter ≡ false }
+        ensures act { IfOk result (λ act. act ≡ act_or (due (V.accepts verifier.now) place.now (keep letter self.old)) act_of.Kept) }
+        ensures after { IfOk result (λ act. self.new ≡ after_act act (keep letter self.old)) }
+        ensures err { OnErr result (self.new ≡ self.old) }
+    {
+        self.keep(letter);
+        match self.told(place, verifier) {
+            Ok(Some(act)) => Ok(act),
+            Ok(None) => Ok(Act::Kept),
+            Err(fault) => {
+                self.kept.pop();
+                Err(fault)
+            }
+        }
+    }
+
+    /// What a vote message brings, at the place.
+    fn vote<V: Verifier>(
+        &mut self,
+        place: &Place,
+        letter: Letter,
+        verifier: &V,
+    ) -> Result<Act, NoMemory>
+        requires { IsPlace place.now }
+        ensures answer { IfOk result (λ act. act ≡ vote_answer (V.accepts verifier.now) place.now (at_place place.now self.old) letter) }
+        ensures after { OnOk result (self.new ≡ after_vote (V.accepts verifier.now) place.now self.old letter) }
+        ensures err { OnErr result (self.new ≡ at_place place.now self.old) }
+    {
+        self.settle(place);
+        if self.is_new(place, &letter, verifier) {
+            return self.new_vote(place, letter, verifier);
+        }
+        let refusal = self.refusal(place, &letter, verifier);
+        match self.told(place, verifier)? {
+            Some(act) => Ok(act),
+            None => Ok(refusal),
+        }
+    }
+
+    /// A proposal has come. The answer is the act that is due then, `Kept`, or the first reason that
+    /// holds. Without memory the view is at the place, and the message is not kept.
+    pub fn on_preprepare<V: Verifier>(
+        &mut self,
+        place: &Place,
+        from: u32,
+        message: PrePrepare,
+        verifier: &V,
+    ) -> Result<Act, NoMemory>
+        requires { IsPlace place.now }
+        ensures answer { IfOk result (λ act. act ≡ vote_answer (V.accepts verifier.now) place.now (at_place place.now self.old) (record { from = from; message = message_of.PrePrepare message })) }
+        ensures after { OnOk result (self.new ≡ after_vote (V.accepts verifier.now) place.now self.old (record { from = from; message = message_of.PrePrepare message })) }
+        ensures err { OnErr result (self.new ≡ at_place place.now self.old) }
+    {
+        let message = Message::PrePrepare(message);
+        self.vote(place, Letter { from, message }, verifier)
+    }
+
+    /// A Commit has come; the node hands in its own with itself as the sender. The answers are those of
+    /// `on_preprepare`.
+    pub fn on_commit<V: Verifier>(
+        &mut self,
+        place: &Place,
+        from: u32,
+        message: Commit,
+        verifier: &V,
+    ) -> Result<Act, NoMemory>
+        requires { IsPlace place.now }
+        ensures answer { IfOk result (λ act. act ≡ vote_answer (V.accepts verifier.now) place.now (at_place place.now self.old) (record { from = from; message = message_of.Commit message })) }
+        ensures after { OnOk result (self.new ≡ after_vote (V.accepts verifier.now) place.now self.old (record { from = from; message = message_of.Commit message })) }
+        ensures err { OnErr result (self.new ≡ at_place place.now self.old) }
+    {
+        let message = Message::Commit(message);
+        self.vote(place, Letter { from, message }, verifier)
+    }
+
+    /// A Prepare has come. The answer is that the accepted block is prepared, `Kept`, or the first reason
+    /// that holds. It takes no memory.
+    pub fn on_prepare(&mut self, place: &Place, from: u32, message: &Prepare) -> Act
+        requires { IsPlace place.now }
+        ensures answer { result ≡ prepare_answer place.now (at_place place.now self.old) (record { from = from; message = message_of.Prepare message.now }) }
+        ensures after { self.new ≡ after_prepare place.now self.old (record { from = from; message = message_of.Prepare message.now }) }
+    {
+        self.settle(place);
+        let message = Message::Prepare(*message);
+        let letter = Letter { from, message };
+        let refusal = match outside(place, self.view, self.left, &letter) {
+            Some(reason) => Act::Nothing(reason),
+            None => {
+                if has_slot(self.kept.as_slice(), &letter) {
+                    Act::Nothing(Reason::Repeat)
+                } else {
+                    self.keep(letter);
+                    Act::Kept
+                }
+            }
+        };
+        match self.preparation_due(place) {
+            Some(digest) => {
+                self.is_prepared = true;
+                Act::Prepare(digest)
+            }
+            None => refusal,
+        }
+    }
+
+    /// Proposes a block of these requests. The answer is that it is accepted, or the first reason that
+    /// holds. Without memory the view is at the place.
+    pub fn propose<V: Verifier>(
+        &mut self,
+        place: &Place,
+        offer: List<Request>,
+        _verifier: &V,
+    ) -> Result<Act, NoMemory>
+        requires { IsPlace place.now }
+        ensures answer { IfOk result (λ act. act ≡ propose_answer place.now (at_place place.now self.old) offer) }
+        ensures after { OnOk result (self.new ≡ after_propose place.now self.old offer) }
+        ensures err { OnErr result (self.new ≡ at_place place.now self.old) }
+    {
+        self.settle(place);
+        if let Some(reason) = self.own_refusal(place) {
+            return Ok(Act::Nothing(reason));
+        }
+        if leader(place, self.view) != self.me {
+            return Ok(Act::Nothing(Reason::NotLeader));
+        }
+        if self.accepted.is_some() {
+            return Ok(Act::Nothing(Reason::Accepted));
+        }
+        if offer.is_empty() {
+            return Ok(Act::Nothing(Reason::NotYet));
+        }
+        match proposed_block(*self.kept.allocator(), place, self.view, offer)? {
+            Some(block) => {
+                self.accept(&block)?;
+                Ok(Act::Accept(block))
+            }
+            None => Ok(Act::Nothing(Reason::BadBlock)),
+        }
+    }
+
+    /// Why the node itself may not act.
+    fn own_refusal(&self, place: &Place) -> Option<Reason>
+        ensures { result ≡ first_reason (own_reasons place.now self.now) }
+    {
+        if !is_among(place.config.members.as_slice(), self.me) {
+            Some(Reason::NotMember)
+        } else if is_raft(&place.config) {
+            Some(Reason::OtherConfig)
+        } else if self.view < self.left {
+            Some(Reason::Leaving)
+        } else {
+            None
+        }
+    }
+
+    /// What is due now: the first of accept, prepare and deliver, or the first reason that holds. Without
+    /// memory the view is at the place.
+    pub fn due<V: Verifier>(&mut self, place: &Place, verifier: &V) -> Result<Act, NoMemory>
+        requires { IsPlace place.now }
+        ensures answer { IfOk result (λ act. act ≡ due_answer (V.accepts verifier.now) place.now (at_place place.now self.old)) }
+        ensures after { OnOk result (self.new ≡ after_due (V.accepts verifier.now) place.now self.old) }
+        ensures err { OnErr result (self.new ≡ at_place place.now self.old) }
+    {
+        self.settle(place);
+        if let Some(act) = self.told(place, verifier)? {
+            return Ok(act);
+        }
+        match self.own_refusal(place) {
+            Some(reason) => Ok(Act::Nothing(reason)),
+            None => Ok(Act::Nothing(Reason::NotYet)),
+        }
+    }
+}

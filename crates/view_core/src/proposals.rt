@@ -1,0 +1,83 @@
+//! The block that a leader proposes.
+ghost use Rattle.std.specs.Prelude.{◌≡◌, IfOk, Some, None, if◌then◌else◌};
+ghost use Rattle.node_model.specs.Acts.{carried_cert, proposal};
+ghost use Rattle.node_model.specs.Checks.{is_next_block, signers_carried};
+ghost use Rattle.node_model.specs.Leading.{next_meta};
+ghost use Rattle.view_core.specs.Places.{IsPlace};
+
+use crate::blocks::{is_at_start, is_next_block, turn};
+use ord_types::{
+    Block, Cert, Header, List, Meta, NoMemory, Place, Request, content_hash, meta_hash,
+};
+use safety_model::{has_room, have_room};
+use std::alloc::Global;
+
+/// Who signed the certificate, in order.
+fn signers(alloc: Global, cert: &Cert) -> Result<List<u32>, NoMemory>
+    ensures { IfOk result (λ signers. signers ≡ signers_carried (Some cert.now)) }
+{
+    let mut signers = List::new(alloc);
+    for sig in cert.sigs.as_slice() {
+        signers.push(sig.signer)?;
+    }
+    Ok(signers)
+}
+
+/// Who signed the certificate that a proposal carries.
+fn carried_signers(alloc: Global, place: &Place) -> Result<List<u32>, NoMemory>
+    ensures { IfOk result (λ signers. signers ≡ signers_carried (carried_cert place.now)) }
+{
+    if is_at_start(place) {
+        return Ok(List::new(alloc));
+    }
+    match &place.last_cert {
+        None => Ok(List::new(alloc)),
+        Some(cert) => signers(alloc, cert),
+    }
+}
+
+/// The meta of the next block of the view.
+fn next_meta(alloc: Global, place: &Place, view: u64) -> Result<Meta, NoMemory>
+    requires { IsPlace place.now }
+    ensures { IfOk result (λ meta. meta ≡ next_meta place.now view (signers_carried (carried_cert place.now))) }
+{
+    Ok(Meta {
+        config: place.config.number,
+        view,
+        decided: turn(place, view),
+        blacklist: List::new(alloc),
+        signers: carried_signers(alloc, place)?,
+    })
+}
+
+/// The block of these requests, where it may come next.
+pub(crate) fn proposed_block(
+    alloc: Global,
+    place: &Place,
+    view: u64,
+    offer: List<Request>,
+) -> Result<Option<Block>, NoMemory>
+    requires { IsPlace place.now }
+    ensures { IfOk result (λ block. block ≡ (if is_next_block place.now (proposal place.now view offer) then Some (proposal place.now view offer) else None)) }
+{
+    let meta = next_meta(alloc, place, view)?;
+    if !have_room(offer.as_slice()) || !has_room(&meta) {
+        return Ok(None);
+    }
+    let header = Header {
+        number: place.height,
+        previous: place.last,
+        content: content_hash(&offer),
+        meta: meta_hash(&meta),
+    };
+    let block = Block {
+        header,
+        requests: offer,
+        meta,
+    };
+    if is_next_block(place, &block) {
+        Ok(Some(block))
+    } else {
+        Ok(None)
+    }
+}
