@@ -64,7 +64,7 @@ impl ViewState {
     }
 
     /// Whether the node is a member of a BFT configuration, inside its view.
-    fn may_vote(&self, place: &Place) -> bool
+    pub(crate) fn may_vote(&self, place: &Place) -> bool
         ensures { result ≡ is_voting place.now self.now && is_inside_view self.now }
     {
         !is_raft(&place.config)

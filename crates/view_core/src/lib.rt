@@ -8,6 +8,7 @@ mod dues;
 mod held;
 mod keeping;
 mod proposals;
+mod readers;
 
 pub use held::ViewState;
 pub use node_model::Act;

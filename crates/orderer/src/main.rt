@@ -1,0 +1,28 @@
+//! The ordering service's program. `orderer world FILE` plays a script on a simulated network.
+#![tactic(auto)]
+
+mod adapters;
+mod offline;
+
+use adapters::{NoSource, Reading, Writing};
+use offline::run_offline;
+use std::env;
+use std::fs::File;
+use std::io;
+use std::process::ExitCode;
+
+fn main(rt: HostRuntime) -> io::Result<ExitCode> {
+    let mut words = Vec::new(rt.alloc());
+    for word in env::args(&rt)?.skip(1) {
+        words.push(word)?;
+    }
+    let mut out = Writing::new(rt.stdout());
+    let status = match words.get(1) {
+        Some(path) => match File::open(&rt, path.as_str()) {
+            Ok(file) => run_offline(rt.alloc(), words.as_slice(), &mut Reading::new(file), &mut out),
+            Err(_) => run_offline(rt.alloc(), words.as_slice(), &mut NoSource::new(), &mut out),
+        },
+        None => run_offline(rt.alloc(), words.as_slice(), &mut NoSource::new(), &mut out),
+    };
+    Ok(ExitCode::from(status))
+}

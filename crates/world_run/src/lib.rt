@@ -1,0 +1,11 @@
+//! Plays the lines of a script on a simulated network.
+#![tactic(auto)]
+
+mod network;
+mod node;
+mod pool;
+mod runner;
+mod texts;
+mod world;
+
+pub use runner::Runner;
