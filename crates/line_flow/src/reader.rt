@@ -208,3 +208,59 @@ impl LineReader {
         }
     }
 }
+
+#[cfg(test)]
+mod tests {
+    use super::*;
+    use ord_types::{Bytes, List, MemSource};
+    use std::test::Fail;
+
+    /// A source of this text, of which these calls fail.
+    fn source(alloc: Global, text: &[u8], fails: &[u64]) -> Result<MemSource, Fail> {
+        let mut calls = List::new(alloc);
+        for call in fails {
+            calls.push(*call)?;
+        }
+        Ok(MemSource::new(Bytes::from_slice(alloc, text)?, calls))
+    }
+
+    #[test]
+    fn lines_in_tiny_pieces(rt: HostRuntime) -> Result<(), Fail> {
+        for size in [1, 2, 3, 7, 64] {
+            let mut source = source(rt.alloc(), b"abc\n\n#\nabcd\ne", &[])?;
+            let mut reader = LineReader::with_chunk(rt.alloc(), size)?;
+            for line in [b"abc".as_slice(), b"", b"#", b"abcd", b"e"] {
+                let next = reader.next_line(&mut source, 4)?;
+                assert_eq!(rt; next, NextLine::Line, "pieces of {size}");
+                assert_eq!(rt; reader.line(), line, "pieces of {size}");
+            }
+            assert_eq!(rt; reader.next_line(&mut source, 4)?, NextLine::End);
+            assert_eq!(rt; reader.next_line(&mut source, 4)?, NextLine::End);
+        }
+        Ok(())
+    }
+
+    #[test]
+    fn long_lines(rt: HostRuntime) -> Result<(), Fail> {
+        for text in [b"abcd\n".as_slice(), b"abcd", b"abcde", b"abcdefgh\n"] {
+            let mut source = source(rt.alloc(), text, &[])?;
+            let mut reader = LineReader::new(rt.alloc())?;
+            assert_eq!(rt; reader.next_line(&mut source, 3)?, NextLine::TooLong);
+        }
+        Ok(())
+    }
+
+    #[test]
+    fn failing_reads(rt: HostRuntime) -> Result<(), Fail> {
+        for call in 1..5 {
+            let mut source = source(rt.alloc(), b"a\nb\nc\n", &[call])?;
+            let mut reader = LineReader::with_chunk(rt.alloc(), 2)?;
+            for _ in 1..call {
+                assert_eq!(rt; reader.next_line(&mut source, 9)?, NextLine::Line);
+            }
+            let failed = reader.next_line(&mut source, 9);
+            assert_eq!(rt; failed, Err(LineFault::ReadFault), "call {call}");
+        }
+        Ok(())
+    }
+}

@@ -8,5 +8,4 @@ ghost use Rattle.script.specs.Grammar.{meaning};
 /// ranges in order. A law about the grammar; it does nothing.
 pub fn commands_are_well_formed()
     ensures { (line : List ℕ) (command : Command) → meaning line ≡ Means command → IsWellFormed command }
-{
-}
+{}
