@@ -3,14 +3,14 @@ ghost use Rattle.script.specs.Words.{Word, words, words_left};
 ghost use Rattle.script.specs.Reading.{Gives, Reads};
 ghost use Rattle.script.specs.Grammar.{genesis_line, submit_line, tick_line, deliver_line, flush_line, line_of, command_of, meaning};
 
-use crate::command::{Command, Meaning, Stop};
+use crate::command::{Command, Halt, Meaning, Stop, malformed};
 use crate::later::is_later;
 use crate::words::Words;
 use ord_types::NoMemory;
 use std::alloc::Global;
 
 #[tactic(auto, unfolding(crate::specs::Grammar::submit_line))]
-fn submit_line(alloc: Global, words: &mut Words<'_>) -> Result<Command, Stop>
+fn submit_line(alloc: Global, words: &mut Words<'_>) -> Result<Command, Halt>
     ensures { Gives (λ command. command) result (submit_line (length words.old.line.now + 1) (words_left words.old.line.now words.old.from)) }
 {
     let node = words.id()?;
@@ -27,7 +27,7 @@ fn submit_line(alloc: Global, words: &mut Words<'_>) -> Result<Command, Stop>
 }
 
 #[tactic(auto, unfolding(crate::specs::Grammar::tick_line))]
-fn tick_line(words: &mut Words<'_>) -> Result<Command, Stop>
+fn tick_line(words: &mut Words<'_>) -> Result<Command, Halt>
     ensures { Gives (λ command. command) result (tick_line (length words.old.line.now + 1) (words_left words.old.line.now words.old.from)) }
 {
     let node = words.id()?;
@@ -37,7 +37,7 @@ fn tick_line(words: &mut Words<'_>) -> Result<Command, Stop>
 }
 
 #[tactic(auto, unfolding(crate::specs::Grammar::genesis_line))]
-fn genesis_line(alloc: Global, words: &mut Words<'_>) -> Result<Command, Stop>
+fn genesis_line(alloc: Global, words: &mut Words<'_>) -> Result<Command, Halt>
     ensures { Gives (λ command. command) result (genesis_line (length words.old.line.now + 1) (words_left words.old.line.now words.old.from)) }
 {
     words.same(b"bft")?;
@@ -48,7 +48,7 @@ fn genesis_line(alloc: Global, words: &mut Words<'_>) -> Result<Command, Stop>
 }
 
 #[tactic(auto, unfolding(crate::specs::Grammar::deliver_line))]
-fn deliver_line(alloc: Global, words: &mut Words<'_>) -> Result<Command, Stop>
+fn deliver_line(alloc: Global, words: &mut Words<'_>) -> Result<Command, Halt>
     ensures { Gives (λ command. command) result (deliver_line (length words.old.line.now + 1) (words_left words.old.line.now words.old.from)) }
 {
     let ranges = words.ranges(alloc)?;
@@ -57,7 +57,7 @@ fn deliver_line(alloc: Global, words: &mut Words<'_>) -> Result<Command, Stop>
 }
 
 #[tactic(auto, unfolding(crate::specs::Grammar::flush_line))]
-fn flush_line(alloc: Global, words: &mut Words<'_>) -> Result<Command, Stop>
+fn flush_line(alloc: Global, words: &mut Words<'_>) -> Result<Command, Halt>
     ensures { Gives (λ command. command) result (flush_line (words_left words.old.line.now words.old.from)) }
 {
     let only = words.given_ids(alloc)?;
@@ -67,7 +67,7 @@ fn flush_line(alloc: Global, words: &mut Words<'_>) -> Result<Command, Stop>
 
 /// What a line asks for, by its first word and those behind it.
 #[tactic(auto, unfolding(crate::specs::Grammar::line_of))]
-fn line_of(alloc: Global, place: usize, word: &[u8], words: &mut Words<'_>) -> Result<Command, Stop>
+fn line_of(alloc: Global, place: usize, word: &[u8], words: &mut Words<'_>) -> Result<Command, Halt>
     ensures { Gives (λ command. command) result (line_of (length words.old.line.now + 1) (record { place = place; text = word.now }) (words_left words.old.line.now words.old.from)) }
 {
     if word == b"genesis".as_slice() {
@@ -85,18 +85,18 @@ fn line_of(alloc: Global, place: usize, word: &[u8], words: &mut Words<'_>) -> R
     if word == b"flush".as_slice() {
         return flush_line(alloc, words);
     }
-    Err(Stop::Malformed(place))
+    Err(malformed(place))
 }
 
-fn command(alloc: Global, line: &[u8]) -> Result<Command, Stop>
+fn command(alloc: Global, line: &[u8]) -> Result<Command, Halt>
     ensures { Gives (λ command. command) result (command_of (length line.now + 1) (words 1 line.now)) }
 {
     let mut words = Words::new(line);
     let Some((place, word)) = words.next() else {
-        return Err(Stop::Malformed(line.len() + 1));
+        return Err(malformed(line.len() + 1));
     };
     if is_later(word, &words) {
-        return Err(Stop::NotBuilt);
+        return Err(Halt::Stopped(Stop::NotBuilt));
     }
     line_of(alloc, place, word, &mut words)
 }
@@ -110,8 +110,8 @@ pub fn meaning(alloc: Global, line: &[u8]) -> Result<Meaning, NoMemory>
         [] | [b'#', ..] => Ok(Meaning::Nothing),
         _ => match command(alloc, line) {
             Ok(command) => Ok(Meaning::Means(command)),
-            Err(Stop::NoMemory) => Err(NoMemory),
-            Err(stop) => Ok(Meaning::Wrong(stop)),
+            Err(Halt::NoMemory) => Err(NoMemory),
+            Err(Halt::Stopped(stop)) => Ok(Meaning::Wrong(stop)),
         },
     }
 }
