@@ -1,6 +1,6 @@
 -- Lemmas on lines.
 use Rattle.std.proofs.Common.{◌≡◌, ◌≢◌, ℕ, suc, zero, ◌+◌, ◌-◌, ◌<◌, ◌≤◌, List, [], ◌∷◌, ◌++◌, cond, eqb, length, get_or, take, drop, sym, ap, ◌∙◌, refl, arith, true, false}
-use Rattle.std.proofs.lemmas.List.{drop-take, drop-drop, drop_more, take-append-drop, length-take, append_assoc, append-nil}
+use Rattle.std.proofs.lemmas.List.{drop-take, drop-drop, drop_more, take-append-drop, length-take, length-append, append_assoc, append-nil}
 use Rattle.std.proofs.lemmas.Bool.{ne_eqb}
 use Rattle.std.specs.List.{onto_first}
 use Rattle.line_flow.specs.Lines.{lines, IsUnbroken, first_length}
@@ -66,13 +66,16 @@ lines_end all line rest whole none unbroken some =
     let is_all : line ≡ all = sym (append-nil line) ∙ ap (λ (xs : List ℕ). line ++ xs) (sym none) ∙ whole in
     ap lines (sym is_all) ∙ lines_last line unbroken some ∙ ap (λ (xs : List ℕ). line ∷ lines xs) (sym none)
 
--- A reader that took more than so many bytes and met no line feed.
-pub lines_long : (all line rest : List ℕ) (limit : ℕ) → line ++ rest ≡ all → IsUnbroken line → limit < length line → limit < first_length (lines all)
-lines_long all line rest limit whole unbroken long =
-    let least : length line ≤ first_length (lines all) = rw whole at (first_length_from line rest unbroken) in
-    omega arith
+-- A line that is too long by bytes that are not taken any more.
+pub lines_long : (before taken more : List ℕ) (limit : ℕ) → IsUnbroken before → IsUnbroken taken → limit < length before + length taken → limit < first_length (lines (before ++ (taken ++ more)))
+lines_long before taken more limit unbroken plain long =
+    let front : length (before ++ taken) ≤ first_length (lines ((before ++ taken) ++ more)) = first_length_from (before ++ taken) more (IsUnbroken-append before taken unbroken plain) in
+    let size = length-append before taken in
+    rw (← append_assoc before taken more) (omega arith)
 
--- the same of a line that is too long
-pub cut_long : (all before taken line more last : List ℕ) (limit : ℕ) → line ++ 10 ∷ more ≡ before ++ taken → before ++ (taken ++ last) ≡ all → IsUnbroken line → limit < length line → limit < first_length (lines all)
-cut_long all before taken line more last limit met whole unbroken long =
-    rw (lines_cut all before taken line more last met whole unbroken) long
+-- the same, where a line feed stands at a place of these bytes
+pub cut_long : (before taken more : List ℕ) (at limit : ℕ) → IsUnbroken before → IsUnbroken (take at taken) → at ≤ length taken → limit < length before + at → limit < first_length (lines (before ++ (taken ++ more)))
+cut_long before taken more at limit unbroken plain within long =
+    let size : length (take at taken) ≡ at = omega (arith, length-take at taken) in
+    let parts : take at taken ++ (drop at taken ++ more) ≡ taken ++ more = sym (append_assoc (take at taken) (drop at taken) more) ∙ ap (λ (xs : List ℕ). xs ++ more) (take-append-drop at taken) in
+    rw parts at (lines_long before (take at taken) (drop at taken ++ more) limit unbroken plain (omega arith))

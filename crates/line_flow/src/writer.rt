@@ -17,3 +17,20 @@ pub fn write_all<K: Sink>(out: &mut K, bytes: &[u8]) -> Result<(), Failed>
     }
     Ok(())
 }
+
+#[cfg(test)]
+mod tests {
+    use super::*;
+    use ord_types::{List, MemSink};
+    use std::test::Fail;
+
+    #[test]
+    fn written(rt: HostRuntime) -> Result<(), Fail> {
+        let mut sink = MemSink::new(rt.alloc(), List::new(rt.alloc()))?;
+        assert_eq!(rt; write_all(&mut sink, b"sent "), Ok(()));
+        assert_eq!(rt; write_all(&mut sink, b""), Ok(()));
+        assert_eq!(rt; write_all(&mut sink, b"0\n"), Ok(()));
+        assert_eq!(rt; sink.bytes(), b"sent 0\n".as_slice());
+        Ok(())
+    }
+}

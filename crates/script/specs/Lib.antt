@@ -3,3 +3,4 @@ pub mod Fields
 pub mod Reading
 pub mod Later
 pub mod Grammar
+pub mod Commands

@@ -1,7 +1,9 @@
 -- How fields are read one after the other.
 use Rattle.std.specs.Prelude.{◌≡◌, ℕ, List, [], ◌∷◌, Option, Some, None, Result, Ok, Err}
 use Rattle.script.specs.declared.command.Stop.{Stop}
-use Rattle.script.specs.declared.command.Stop.TheVariants.{Malformed, NotBuilt, NoMemory}
+use Rattle.script.specs.declared.command.Stop.TheVariants.{Malformed}
+use Rattle.script.specs.declared.command.Halt.{Halt}
+use Rattle.script.specs.declared.command.Halt.TheVariants.{Stopped, NoMemory}
 use Rattle.script.specs.Words.{Word}
 
 infixl 10 ◌>>=◌
@@ -30,15 +32,14 @@ no_more [] = Ok tt
 no_more (word ∷ more) = Err (Malformed word.place)
 
 -- what stopped the code is what stops the reading, unless memory ran out
-abbrev pub Fails : {Y : Type 0} → Stop → Result Y Stop → Type 0
+abbrev pub Fails : {Y : Type 0} → Halt → Result Y Stop → Type 0
 Fails NoMemory read = Unit {0}
-Fails (Malformed place) read = read ≡ Err (Malformed place)
-Fails NotBuilt read = read ≡ Err NotBuilt
+Fails (Stopped stop) read = read ≡ Err stop
 
-abbrev pub Gives : {X Y : Type 0} → (X → Y) → Result X Stop → Result Y Stop → Type 0
+abbrev pub Gives : {X Y : Type 0} → (X → Y) → Result X Halt → Result Y Stop → Type 0
 Gives view (Ok x) read = read ≡ Ok (view x)
 Gives view (Err e) read = Fails e read
 
-abbrev pub Reads : {X : Type 0} → Result X Stop → List Word → Result (X × List Word) Stop → Type 0
+abbrev pub Reads : {X : Type 0} → Result X Halt → List Word → Result (X × List Word) Stop → Type 0
 Reads (Ok x) left read = read ≡ Ok (x, left)
 Reads (Err e) left read = Fails e read

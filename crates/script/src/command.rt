@@ -1,5 +1,5 @@
 ghost use Rattle.std.specs.Prelude.{◌≡◌};
-ghost use Rattle.script.specs.declared.command.Stop.TheVariants.{NoMemory as OutOfMemory};
+ghost use Rattle.script.specs.declared.command.Halt.TheVariants.{NoMemory as OutOfMemory};
 
 use ord_types::{Bytes, List, NoMemory};
 
@@ -46,7 +46,20 @@ pub enum Stop {
     Malformed(usize),
     /// The line belongs to a later part.
     NotBuilt,
+}
+
+/// What ends the reading of a line.
+#[derive(Clone, Copy, Debug, PartialEq, Eq)]
+pub enum Halt {
+    Stopped(Stop),
     NoMemory,
+}
+
+/// The byte at this place isn't in the grammar.
+pub fn malformed(place: usize) -> Halt
+    ensures { result ≡ Halt.Stopped (Stop.Malformed place) }
+{
+    Halt::Stopped(Stop::Malformed(place))
 }
 
 /// What a line says.
@@ -58,10 +71,10 @@ pub enum Meaning {
     Wrong(Stop),
 }
 
-impl From<NoMemory> for Stop {
-    ghost from_gives = { λ _ stop. stop ≡ OutOfMemory };
+impl From<NoMemory> for Halt {
+    ghost from_gives = { λ _ halt. halt ≡ OutOfMemory };
 
-    fn from(_error: NoMemory) -> Stop {
-        Stop::NoMemory
+    fn from(_error: NoMemory) -> Halt {
+        Halt::NoMemory
     }
 }

@@ -81,9 +81,7 @@ fn is_later_genesis(words: &Words<'_>) -> bool
     let Some((_, kind)) = options.next() else {
         return true;
     };
-    kind == b"raft".as_slice()
-        || has_later_option(options)
-        || !has_word(words.again(), b"batch=1")
+    kind == b"raft".as_slice() || has_later_option(options) || !has_word(words.again(), b"batch=1")
 }
 
 /// Whether a line belongs to a later part, by its first word and those behind it.

@@ -3,14 +3,14 @@ ghost use Rattle.script.specs.Words.{Word, words, words_left};
 ghost use Rattle.script.specs.Reading.{Gives, Reads};
 ghost use Rattle.script.specs.Grammar.{genesis_line, submit_line, tick_line, deliver_line, flush_line, line_of, command_of, meaning};
 
-use crate::command::{Command, Meaning, Stop};
+use crate::command::{Command, Halt, Meaning, Stop, malformed};
 use crate::later::is_later;
 use crate::words::Words;
 use ord_types::NoMemory;
 use std::alloc::Global;
 
 #[tactic(auto, unfolding(crate::specs::Grammar::submit_line))]
-fn submit_line(alloc: Global, words: &mut Words<'_>) -> Result<Command, Stop>
+fn submit_line(alloc: Global, words: &mut Words<'_>) -> Result<Command, Halt>
     ensures { Gives (λ command. command) result (submit_line (length words.old.line.now + 1) (words_left words.old.line.now words.old.from)) }
 {
     let node = words.id()?;
@@ -27,7 +27,7 @@ fn submit_line(alloc: Global, words: &mut Words<'_>) -> Result<Command, Stop>
 }
 
 #[tactic(auto, unfolding(crate::specs::Grammar::tick_line))]
-fn tick_line(words: &mut Words<'_>) -> Result<Command, Stop>
+fn tick_line(words: &mut Words<'_>) -> Result<Command, Halt>
     ensures { Gives (λ command. command) result (tick_line (length words.old.line.now + 1) (words_left words.old.line.now words.old.from)) }
 {
     let node = words.id()?;
@@ -37,7 +37,7 @@ fn tick_line(words: &mut Words<'_>) -> Result<Command, Stop>
 }
 
 #[tactic(auto, unfolding(crate::specs::Grammar::genesis_line))]
-fn genesis_line(alloc: Global, words: &mut Words<'_>) -> Result<Command, Stop>
+fn genesis_line(alloc: Global, words: &mut Words<'_>) -> Result<Command, Halt>
     ensures { Gives (λ command. command) result (genesis_line (length words.old.line.now + 1) (words_left words.old.line.now words.old.from)) }
 {
     words.same(b"bft")?;
@@ -48,7 +48,7 @@ fn genesis_line(alloc: Global, words: &mut Words<'_>) -> Result<Command, Stop>
 }
 
 #[tactic(auto, unfolding(crate::specs::Grammar::deliver_line))]
-fn deliver_line(alloc: Global, words: &mut Words<'_>) -> Result<Command, Stop>
+fn deliver_line(alloc: Global, words: &mut Words<'_>) -> Result<Command, Halt>
     ensures { Gives (λ command. command) result (deliver_line (length words.old.line.now + 1) (words_left words.old.line.now words.old.from)) }
 {
     let ranges = words.ranges(alloc)?;
@@ -57,7 +57,7 @@ fn deliver_line(alloc: Global, words: &mut Words<'_>) -> Result<Command, Stop>
 }
 
 #[tactic(auto, unfolding(crate::specs::Grammar::flush_line))]
-fn flush_line(alloc: Global, words: &mut Words<'_>) -> Result<Command, Stop>
+fn flush_line(alloc: Global, words: &mut Words<'_>) -> Result<Command, Halt>
     ensures { Gives (λ command. command) result (flush_line (words_left words.old.line.now words.old.from)) }
 {
     let only = words.given_ids(alloc)?;
@@ -67,12 +67,7 @@ fn flush_line(alloc: Global, words: &mut Words<'_>) -> Result<Command, Stop>
 
 /// What a line asks for, by its first word and those behind it.
 #[tactic(auto, unfolding(crate::specs::Grammar::line_of))]
-fn line_of(
-    alloc: Global,
-    place: usize,
-    word: &[u8],
-    words: &mut Words<'_>,
-) -> Result<Command, Stop>
+fn line_of(alloc: Global, place: usize, word: &[u8], words: &mut Words<'_>) -> Result<Command, Halt>
     ensures { Gives (λ command. command) result (line_of (length words.old.line.now + 1) (record { place = place; text = word.now }) (words_left words.old.line.now words.old.from)) }
 {
     if word == b"genesis".as_slice() {
@@ -90,18 +85,18 @@ fn line_of(
     if word == b"flush".as_slice() {
         return flush_line(alloc, words);
     }
-    Err(Stop::Malformed(place))
+    Err(malformed(place))
 }
 
-fn command(alloc: Global, line: &[u8]) -> Result<Command, Stop>
+fn command(alloc: Global, line: &[u8]) -> Result<Command, Halt>
     ensures { Gives (λ command. command) result (command_of (length line.now + 1) (words 1 line.now)) }
 {
     let mut words = Words::new(line);
     let Some((place, word)) = words.next() else {
-        return Err(Stop::Malformed(line.len() + 1));
+        return Err(malformed(line.len() + 1));
     };
     if is_later(word, &words) {
-        return Err(Stop::NotBuilt);
+        return Err(Halt::Stopped(Stop::NotBuilt));
     }
     line_of(alloc, place, word, &mut words)
 }
@@ -115,8 +110,158 @@ pub fn meaning(alloc: Global, line: &[u8]) -> Result<Meaning, NoMemory>
         [] | [b'#', ..] => Ok(Meaning::Nothing),
         _ => match command(alloc, line) {
             Ok(command) => Ok(Meaning::Means(command)),
-            Err(Stop::NoMemory) => Err(NoMemory),
-            Err(stop) => Ok(Meaning::Wrong(stop)),
+            Err(Halt::NoMemory) => Err(NoMemory),
+            Err(Halt::Stopped(stop)) => Ok(Meaning::Wrong(stop)),
         },
+    }
+}
+
+#[cfg(test)]
+mod tests {
+    use super::*;
+    use crate::command::Range;
+    use std::test::Fail;
+
+    /// Why a line stops, or a place of 0 where it doesn't.
+    fn stop_of(meaning: &Meaning) -> Stop {
+        match meaning {
+            Meaning::Wrong(stop) => *stop,
+            _ => Stop::Malformed(0),
+        }
+    }
+
+    #[test]
+    fn commands(rt: HostRuntime) -> Result<(), Fail> {
+        match meaning(rt.alloc(), b"genesis bft 1,12,4294967295 batch=1")? {
+            Meaning::Means(Command::Genesis { members }) => {
+                assert_eq!(rt; members.as_slice(), [1, 12, 4294967295].as_slice());
+            }
+            _ => return Err(Fail::from("genesis")),
+        }
+        match meaning(
+            rt.alloc(),
+            b"submit 4294967295 0 18446744073709551615 00aff9",
+        )? {
+            Meaning::Means(
+                Command::Submit {
+                    node,
+                    client,
+                    serial,
+                    payload,
+                },
+            ) => {
+                assert_eq!(rt;
+                    (node, client, serial),
+                    (4294967295, 0, 18446744073709551615)
+                );
+                assert_eq!(rt; payload.as_slice(), [0, 175, 249].as_slice());
+            }
+            _ => return Err(Fail::from("submit")),
+        }
+        match meaning(rt.alloc(), b"tick 7")? {
+            Meaning::Means(Command::Tick { node, count }) => {
+                assert_eq!(rt; (node, count), (7, 1));
+            }
+            _ => return Err(Fail::from("tick")),
+        }
+        match meaning(rt.alloc(), b"flush")? {
+            Meaning::Means(Command::Flush { only: None }) => {}
+            _ => return Err(Fail::from("flush")),
+        }
+        for line in [b"".as_slice(), b"#", b"# tick 0"] {
+            match meaning(rt.alloc(), line)? {
+                Meaning::Nothing => {}
+                _ => return Err(Fail::from("nothing")),
+            }
+        }
+        Ok(())
+    }
+
+    #[test]
+    fn malformed_lines(rt: HostRuntime) -> Result<(), Fail> {
+        for (line, place) in [
+            (b"tick x".as_slice(), 6),
+            (b"tick", 5),
+            (b"tick ", 6),
+            (b" tick 1", 1),
+            (b"tick 0", 6),
+            (b"tick 01", 6),
+            (b"tick 4294967296", 6),
+            (b"flush\r", 1),
+            (b"submit 1 2 3", 13),
+            (b"submit 1 2 3 ", 14),
+            (b"submit 1 2 3 AA", 14),
+            (b"submit 1 2 3 a", 14),
+            (b"submit 1  2 3 aa", 10),
+            (b"submit 1 2 18446744073709551616 aa", 12),
+            (b"submit 1 2 3 - -", 16),
+            (b"genesis batch=1", 9),
+            (b"genesis bft 2,1 batch=1", 13),
+            (b"genesis bft 0,1 batch=1", 13),
+            (b"genesis bft 1, batch=1", 13),
+            (b"genesis bft 1 batch=2 batch=1", 15),
+            (b"genesis bft 1 batch=1 batch=1", 23),
+            (b"Flush", 1),
+        ] {
+            let found = meaning(rt.alloc(), line)?;
+            assert_eq!(rt; stop_of(&found), Stop::Malformed(place), "place {place}");
+        }
+        Ok(())
+    }
+
+    #[test]
+    fn lines_not_built(rt: HostRuntime) -> Result<(), Fail> {
+        for line in [
+            b"raw".as_slice(),
+            b"stop-at 0 x",
+            b"deliver",
+            b"tick 1 1",
+            b"tick x ",
+            b"flush ",
+            b"genesis",
+            b"genesis bft 1",
+            b"genesis raft 1 batch=1",
+            b"genesis bft x batch=1 byz=",
+        ] {
+            let found = meaning(rt.alloc(), line)?;
+            assert_eq!(rt; stop_of(&found), Stop::NotBuilt);
+        }
+        Ok(())
+    }
+
+    #[test]
+    fn forms_of_later_parts(rt: HostRuntime) -> Result<(), Fail> {
+        match deliver_line(rt.alloc(), &mut Words::new(b"1-3,7,0-4611686018427387903")) {
+            Ok(Command::Deliver { ranges }) => {
+                let wanted = [(1, 3), (7, 7), (0, 4611686018427387903)];
+                let wanted = wanted.map(|(first, last)| Range { first, last });
+                assert_eq!(rt; ranges.as_slice(), wanted.as_slice());
+            }
+            _ => return Err(Fail::from("deliver")),
+        }
+        for line in [
+            b"3-1".as_slice(),
+            b"1-2-3",
+            b"1,",
+            b"4611686018427387904",
+            b"1-",
+            b"1 2",
+        ] {
+            let found = deliver_line(rt.alloc(), &mut Words::new(line));
+            assert!(rt; found.is_err());
+        }
+        match tick_line(&mut Words::new(b"7 10000")) {
+            Ok(Command::Tick { count, .. }) => assert_eq!(rt; count, 10000),
+            _ => return Err(Fail::from("tick")),
+        }
+        assert!(rt; tick_line(&mut Words::new(b"7 10001")).is_err());
+        assert!(rt; tick_line(&mut Words::new(b"7 0")).is_err());
+        match flush_line(rt.alloc(), &mut Words::new(b"2,5")) {
+            Ok(Command::Flush { only: Some(ids) }) => {
+                assert_eq!(rt; ids.as_slice(), [2, 5].as_slice());
+            }
+            _ => return Err(Fail::from("flush")),
+        }
+        Ok(())
     }
 }

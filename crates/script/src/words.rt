@@ -1,10 +1,11 @@
 ghost use Rattle.std.specs.Prelude.{◌≡◌, ◌≤◌, ◌+◌, ◌^◌, ◌-◌, ◌∷◌, [], IsNone, IfNone, IfSome, IfOk, IfErr, None, length, nat_lt};
+ghost use Rattle.script.specs.declared.command.Stop.TheVariants.{Malformed};
 ghost use Rattle.script.specs.Words.{words_left};
 ghost use Rattle.script.specs.Fields.{number_of, id_of, ticks_of, hex_of, ids_of, given_ids_of, ranges_of};
 ghost use Rattle.script.specs.Grammar.{same_as};
 ghost use Rattle.script.specs.Reading.{Reads, Gives, field, field_or, no_more};
 
-use crate::command::{Range, Stop};
+use crate::command::{Halt, Range, malformed};
 use crate::fields::{hex, id, ids, number, ranges, ticks};
 use memchr::memchr;
 use ord_types::{Bytes, List};
@@ -50,14 +51,14 @@ impl<'a> Words<'a> {
     }
 
     /// The next word, which may not be missing.
-    fn word(&mut self) -> Result<(usize, &'a [u8]), Stop>
+    fn word(&mut self) -> Result<(usize, &'a [u8]), Halt>
         ensures line { self.new.line.now ≡ self.old.line.now }
-        ensures missing { IfErr result (λ stop. (stop ≡ Stop.Malformed (length self.old.line.now + 1)) × (words_left self.old.line.now self.old.from ≡ [])) }
+        ensures missing { IfErr result (λ halt. (halt ≡ Halt.Stopped (Malformed (length self.old.line.now + 1))) × (words_left self.old.line.now self.old.from ≡ [])) }
         ensures found { IfOk result (λ word. words_left self.old.line.now self.old.from ≡ record { place = word.0; text = word.1.now } ∷ words_left self.new.line.now self.new.from) }
     {
         match self.next() {
             Some(word) => Ok(word),
-            None => Err(Stop::Malformed(self.line.len() + 1)),
+            None => Err(malformed(self.line.len() + 1)),
         }
     }
 
@@ -88,7 +89,7 @@ impl<'a> Words<'a> {
     }
 
     /// A word that is this one.
-    pub fn same(&mut self, wanted: &[u8]) -> Result<(), Stop>
+    pub fn same(&mut self, wanted: &[u8]) -> Result<(), Halt>
         ensures line { self.new.line.now ≡ self.old.line.now }
         ensures reads { Reads result (words_left self.new.line.now self.new.from) (field (same_as wanted.now) (length self.old.line.now + 1) (words_left self.old.line.now self.old.from)) }
     {
@@ -96,24 +97,24 @@ impl<'a> Words<'a> {
         if word == wanted {
             Ok(())
         } else {
-            Err(Stop::Malformed(place))
+            Err(malformed(place))
         }
     }
 
     /// An id.
-    pub fn id(&mut self) -> Result<u32, Stop>
+    pub fn id(&mut self) -> Result<u32, Halt>
         ensures line { self.new.line.now ≡ self.old.line.now }
         ensures reads { Reads result (words_left self.new.line.now self.new.from) (field id_of (length self.old.line.now + 1) (words_left self.old.line.now self.old.from)) }
     {
         let (place, word) = self.word()?;
         match id(word) {
             Some(id) => Ok(id),
-            None => Err(Stop::Malformed(place)),
+            None => Err(malformed(place)),
         }
     }
 
     /// A count of ticks, 1 where there is no word.
-    pub fn ticks(&mut self) -> Result<u32, Stop>
+    pub fn ticks(&mut self) -> Result<u32, Halt>
         ensures line { self.new.line.now ≡ self.old.line.now }
         ensures reads { Reads result (words_left self.new.line.now self.new.from) (field_or 1 ticks_of (words_left self.old.line.now self.old.from)) }
     {
@@ -122,60 +123,60 @@ impl<'a> Words<'a> {
         };
         match ticks(word) {
             Some(count) => Ok(count),
-            None => Err(Stop::Malformed(place)),
+            None => Err(malformed(place)),
         }
     }
 
     /// A number below 2^32.
-    pub fn u32(&mut self) -> Result<u32, Stop>
+    pub fn u32(&mut self) -> Result<u32, Halt>
         ensures line { self.new.line.now ≡ self.old.line.now }
         ensures reads { Reads result (words_left self.new.line.now self.new.from) (field (number_of (2 ^ 32 - 1)) (length self.old.line.now + 1) (words_left self.old.line.now self.old.from)) }
     {
         let (place, word) = self.word()?;
         match number(word, u64::from(u32::MAX)) {
             Some(n) => Ok(n as u32),
-            None => Err(Stop::Malformed(place)),
+            None => Err(malformed(place)),
         }
     }
 
     /// A number below 2^64.
-    pub fn u64(&mut self) -> Result<u64, Stop>
+    pub fn u64(&mut self) -> Result<u64, Halt>
         ensures line { self.new.line.now ≡ self.old.line.now }
         ensures reads { Reads result (words_left self.new.line.now self.new.from) (field (number_of (2 ^ 64 - 1)) (length self.old.line.now + 1) (words_left self.old.line.now self.old.from)) }
     {
         let (place, word) = self.word()?;
         match number(word, u64::MAX) {
             Some(n) => Ok(n),
-            None => Err(Stop::Malformed(place)),
+            None => Err(malformed(place)),
         }
     }
 
     /// Bytes in hex.
-    pub fn hex(&mut self, alloc: Global) -> Result<Bytes, Stop>
+    pub fn hex(&mut self, alloc: Global) -> Result<Bytes, Halt>
         ensures line { self.new.line.now ≡ self.old.line.now }
         ensures reads { Reads result (words_left self.new.line.now self.new.from) (field hex_of (length self.old.line.now + 1) (words_left self.old.line.now self.old.from)) }
     {
         let (place, word) = self.word()?;
         match hex(alloc, word)? {
             Some(bytes) => Ok(bytes),
-            None => Err(Stop::Malformed(place)),
+            None => Err(malformed(place)),
         }
     }
 
     /// Ids joined by commas.
-    pub fn ids(&mut self, alloc: Global) -> Result<List<u32>, Stop>
+    pub fn ids(&mut self, alloc: Global) -> Result<List<u32>, Halt>
         ensures line { self.new.line.now ≡ self.old.line.now }
         ensures reads { Reads result (words_left self.new.line.now self.new.from) (field ids_of (length self.old.line.now + 1) (words_left self.old.line.now self.old.from)) }
     {
         let (place, word) = self.word()?;
         match ids(alloc, word)? {
             Some(ids) => Ok(ids),
-            None => Err(Stop::Malformed(place)),
+            None => Err(malformed(place)),
         }
     }
 
     /// Ids joined by commas, or none where there is no word.
-    pub fn given_ids(&mut self, alloc: Global) -> Result<Option<List<u32>>, Stop>
+    pub fn given_ids(&mut self, alloc: Global) -> Result<Option<List<u32>>, Halt>
         ensures line { self.new.line.now ≡ self.old.line.now }
         ensures reads { Reads result (words_left self.new.line.now self.new.from) (field_or None given_ids_of (words_left self.old.line.now self.old.from)) }
     {
@@ -184,29 +185,29 @@ impl<'a> Words<'a> {
         };
         match ids(alloc, word)? {
             Some(ids) => Ok(Some(ids)),
-            None => Err(Stop::Malformed(place)),
+            None => Err(malformed(place)),
         }
     }
 
     /// Ranges joined by commas.
-    pub fn ranges(&mut self, alloc: Global) -> Result<List<Range>, Stop>
+    pub fn ranges(&mut self, alloc: Global) -> Result<List<Range>, Halt>
         ensures line { self.new.line.now ≡ self.old.line.now }
         ensures reads { Reads result (words_left self.new.line.now self.new.from) (field ranges_of (length self.old.line.now + 1) (words_left self.old.line.now self.old.from)) }
     {
         let (place, word) = self.word()?;
         match ranges(alloc, word)? {
             Some(ranges) => Ok(ranges),
-            None => Err(Stop::Malformed(place)),
+            None => Err(malformed(place)),
         }
     }
 
     /// That no word is left.
-    pub fn end(&mut self) -> Result<(), Stop>
+    pub fn end(&mut self) -> Result<(), Halt>
         ensures { Gives (λ _. tt {0}) result (no_more (words_left self.old.line.now self.old.from)) }
     {
         match self.next() {
             None => Ok(()),
-            Some((place, _)) => Err(Stop::Malformed(place)),
+            Some((place, _)) => Err(malformed(place)),
         }
     }
 }

@@ -2,7 +2,7 @@
 use Rattle.std.proofs.Common.{◌≡◌, ℕ, ◌+◌, List, [], ◌∷◌, cond, Bool, true, false, refl, sym, subst, Result, Ok, Err, nat_lt, length}
 use Rattle.std.specs.List.{AllByRecursion}
 use Rattle.script.specs.declared.command.Command.{Command}
-use Rattle.script.specs.declared.command.Stop.TheVariants.{Malformed, NotBuilt, NoMemory}
+use Rattle.script.specs.declared.command.Stop.TheVariants.{Malformed, NotBuilt}
 use Rattle.script.specs.declared.command.Meaning.{Meaning}
 use Rattle.script.specs.declared.command.Meaning.TheVariants.{Nothing, Means, Wrong}
 use Rattle.script.specs.Grammar.{meaning}
@@ -16,7 +16,6 @@ said_keeps turn Good keeps world next number line Nothing is good e = let same :
 said_keeps turn Good keeps world next number line (Means command) is good e = keeps world next number line command is good e
 said_keeps turn Good keeps world next number line (Wrong (Malformed place)) is good e = absurd (cc)
 said_keeps turn Good keeps world next number line (Wrong NotBuilt) is good e = absurd (cc)
-said_keeps turn Good keeps world next number line (Wrong NoMemory) is good e = let same : world ≡ next = cc in subst Good same good
 
 either_keeps : {W : Type 0} (b : Bool) (x y : Turn W) (next : W) (Q : Type 0) → (x.next ≡ Ok next → Q) → (y.next ≡ Ok next → Q) → (cond b x y).next ≡ Ok next → Q
 either_keeps true x y next Q f g e = f e

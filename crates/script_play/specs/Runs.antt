@@ -1,7 +1,7 @@
 -- The text of a script, and how its run ends.
 use Rattle.std.specs.Prelude.{ℕ, ◌+◌, ◌++◌, List, [], ◌∷◌, length, nat_lt, if◌then◌else◌, Result, Ok, Err, ◌≡◌, Option, Some, None, Bool, true, false, ◌<◌}
 use Rattle.script.specs.declared.command.Command.{Command}
-use Rattle.script.specs.declared.command.Stop.TheVariants.{Malformed, NotBuilt, NoMemory}
+use Rattle.script.specs.declared.command.Stop.TheVariants.{Malformed, NotBuilt}
 use Rattle.script.specs.declared.command.Meaning.{Meaning}
 use Rattle.script.specs.declared.command.Meaning.TheVariants.{Nothing, Means, Wrong}
 use Rattle.script.specs.Grammar.{meaning}
@@ -30,7 +30,6 @@ said turn world number Nothing = record { printed = []; next = Ok world }
 said turn world number (Means command) = turn world number command
 said turn world number (Wrong (Malformed place)) = record { printed = malformed_text number; next = Err (MalformedLine number place) }
 said turn world number (Wrong NotBuilt) = record { printed = not_built_text number; next = Err (LaterLine number) }
-said turn world number (Wrong NoMemory) = record { printed = []; next = Ok world }
 
 -- the limits come first
 unfoldable pub line_turn : {W : Type 0} → (W → ℕ → Command → Turn W) → W → ℕ → List ℕ → Turn W

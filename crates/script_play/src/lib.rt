@@ -5,6 +5,8 @@ mod ending;
 mod machine;
 mod player;
 mod statuses;
+#[cfg(test)]
+mod tests;
 mod texts;
 
 pub use ending::{Ending, Fault};

@@ -1,4 +1,5 @@
 ghost use Rattle.std.specs.Prelude.{◌≡◌, ◌++◌, ℕ, List, IfOk, IfSome, OnOk, string_bytes};
+ghost use Rattle.script.specs.Commands.{IsWellFormed};
 ghost use Rattle.script.specs.declared.command.Command.{Command};
 ghost use Rattle.script_play.specs.Turns.{Turn, Turned, IsLimit};
 
@@ -27,6 +28,7 @@ pub trait Machine {
         command: Command,
         text: &mut String,
     ) -> Result<Option<Ending>, NoMemory>
+        requires { IsWellFormed command }
         ensures limit { IfOk result (λ ending. IfSome ending IsLimit) }
         ensures turned { IfOk result (λ ending. Turned (turn_of (world self.old) number command) (string_bytes text.old) (string_bytes text.new) (world self.new) ending) };
 

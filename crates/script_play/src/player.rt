@@ -44,7 +44,6 @@ fn say<M: Machine>(
             put_not_built(text, number)?;
             Ok(Some(Ending::LaterLine(number)))
         }
-        Meaning::Wrong(Stop::NoMemory) => Err(Fault::OutOfMemory),
     }
 }
 

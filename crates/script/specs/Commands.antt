@@ -1,0 +1,43 @@
+-- What the grammar lets into a command.
+use Rattle.std.specs.Prelude.{ℕ, ◌≤◌, ◌<◌, ◌^◌, ◌+◌, ◌-◌, List, length, All, IfSome, Option}
+use Rattle.std.specs.List.Sorted.{IsStrictlyIncreasing}
+use Rattle.script.specs.declared.command.Command.{Command}
+use Rattle.script.specs.declared.command.Command.TheVariants.{Genesis, Submit, Tick, Deliver, Flush}
+use Rattle.script.specs.declared.command.Range.{Range}
+
+pub record IsId (id : ℕ) : Type 0 where
+  pub positive : 1 ≤ id
+  pub below : id ≤ 2 ^ 32 - 1
+
+-- 1 to 31 ids, strictly ascending
+pub record AreIds (ids : List ℕ) : Type 0 where
+  pub some : 1 ≤ length ids
+  pub few : length ids ≤ 31
+  pub ascending : IsStrictlyIncreasing ids
+  pub each : All IsId ids
+
+pub record IsSubmit (node client serial : ℕ) : Type 0 where
+  pub node_id : IsId node
+  pub client_below : client ≤ 2 ^ 32 - 1
+  pub serial_below : serial ≤ 2 ^ 64 - 1
+
+pub record IsTick (node count : ℕ) : Type 0 where
+  pub node_id : IsId node
+  pub some : 1 ≤ count
+  pub few : count ≤ 10000
+
+pub record IsRange (range : Range) : Type 0 where
+  pub in_order : range.first ≤ range.last
+  pub below : range.last ≤ 2 ^ 62 - 1
+
+pub record AreRanges (ranges : List Range) : Type 0 where
+  pub some : 1 ≤ length ranges
+  pub each : All IsRange ranges
+
+-- a command that a line may mean
+abbrev pub IsWellFormed : Command → Type 0
+IsWellFormed (Genesis members) = AreIds members
+IsWellFormed (Submit node client serial payload) = IsSubmit node client serial
+IsWellFormed (Tick node count) = IsTick node count
+IsWellFormed (Deliver ranges) = AreRanges ranges
+IsWellFormed (Flush only) = IfSome only AreIds

@@ -1,0 +1,137 @@
+ghost use Rattle.std.specs.Prelude.{◌≡◌, ◌==◌, ◌++◌, ℕ, Ok, codes, decimal, if◌then◌else◌};
+ghost use Rattle.script_play.specs.Runs.{limit_turn};
+
+use crate::ending::{Ending, Fault};
+use crate::machine::Machine;
+use crate::player::play;
+use crate::statuses::{fault_status, status};
+use crate::texts::put_limit;
+use ord_types::{Bytes, List, MemSink, MemSource, NoMemory};
+use script::Command;
+use std::alloc::Global;
+use std::test::Fail;
+
+/// Says that a command was done, and ends the run at line 5.
+#[derive(Drop)]
+struct Echo;
+
+impl Machine for Echo {
+    ghost World = { Unit {0} };
+
+    ghost world = { λ _. tt };
+
+    ghost turn_of = { λ world number command. if number == 5 then limit_turn 5 7 else (record { printed = decimal number ++ codes " done\n"; next = Ok world }) };
+
+    ghost closing_of = { λ _. codes "end\n" };
+
+    fn turn(
+        &mut self,
+        number: u64,
+        _command: Command,
+        text: &mut String,
+    ) -> Result<Option<Ending>, NoMemory> {
+        if number == 5 {
+            put_limit(text, 5, 7)?;
+            return Ok(Some(Ending::Limit(7)));
+        }
+        write!(text, "{number} done\n")?;
+        Ok(None)
+    }
+
+    fn closing(&self, text: &mut String) -> Result<(), NoMemory> {
+        write!(text, "end\n")?;
+        Ok(())
+    }
+}
+
+/// Plays a script over a source and a sink of which these calls fail, and what was written.
+fn played(
+    alloc: Global,
+    script: &[u8],
+    read: u64,
+    write: u64,
+) -> Result<(Result<Ending, Fault>, MemSink), NoMemory> {
+    let mut reads = List::new(alloc);
+    reads.push(read)?;
+    let mut writes = List::new(alloc);
+    writes.push(write)?;
+    let mut source = MemSource::new(Bytes::from_slice(alloc, script)?, reads);
+    let mut sink = MemSink::new(alloc, writes)?;
+    let result = play(alloc, &mut Echo, &mut source, &mut sink);
+    Ok((result, sink))
+}
+
+#[test]
+fn scripts(rt: HostRuntime) -> Result<(), Fail> {
+    for (script, text, ending, number) in [
+        (b"".as_slice(), b"end\n".as_slice(), Ending::Done, 0),
+        (
+            b"tick 1\n\n#\nflush",
+            b"1 done\n4 done\nend\n",
+            Ending::Done,
+            0,
+        ),
+        (
+            b"tick 1\ntick x\nflush\n",
+            b"1 done\n2 malformed\n",
+            Ending::MalformedLine(2, 6),
+            3,
+        ),
+        (
+            b"#\ndeliver 1\nflush",
+            b"2 not built\n",
+            Ending::LaterLine(2),
+            17,
+        ),
+        (
+            b"\n\n\nflush\nflush\nflush",
+            b"4 done\n5 limit 7\n",
+            Ending::Limit(7),
+            9,
+        ),
+    ] {
+        let (result, sink) = played(rt.alloc(), script, 0, 0)?;
+        assert_eq!(rt; result, Ok(ending));
+        assert_eq!(rt; sink.bytes(), text);
+        assert_eq!(rt; status(ending), number);
+    }
+    Ok(())
+}
+
+#[test]
+fn limits(rt: HostRuntime) -> Result<(), Fail> {
+    for (byte, count, text) in [
+        (b'#', 8_500_000, b"end\n".as_slice()),
+        (b'#', 8_500_001, b"1 limit 8500000\n"),
+        (b'\n', 1_000_000, b"end\n"),
+        (b'\n', 1_000_001, b"1000001 limit 1000000\n"),
+    ] {
+        let script = vec![in rt.alloc(); byte; count]?;
+        let (_, sink) = played(rt.alloc(), script.as_slice(), 0, 0)?;
+        assert_eq!(rt; sink.bytes(), text);
+    }
+    Ok(())
+}
+
+#[test]
+fn faults(rt: HostRuntime) -> Result<(), Fail> {
+    let script = b"tick 1\nflush";
+    for (read, text) in [(1, b"".as_slice()), (2, b"1 done\n")] {
+        let (result, sink) = played(rt.alloc(), script, read, 0)?;
+        assert_eq!(rt; result, Err(Fault::ReadFault));
+        assert_eq!(rt; sink.bytes(), text);
+    }
+    for (write, text) in [
+        (1, b"".as_slice()),
+        (2, b"1 done\n"),
+        (3, b"1 done\n2 done\n"),
+    ] {
+        let (result, sink) = played(rt.alloc(), script, 0, write)?;
+        assert_eq!(rt; result, Err(Fault::WriteFault));
+        assert_eq!(rt; sink.bytes(), text);
+    }
+    assert_eq!(rt; fault_status(Fault::ReadFault), 6);
+    assert_eq!(rt; fault_status(Fault::WriteFault), 7);
+    assert_eq!(rt; fault_status(Fault::OutOfMemory), 8);
+    Ok(())
+}
