@@ -1,8 +1,8 @@
 -- How long texts are.
-use Rattle.std.proofs.Common.{◌≡◌, ℕ, zero, suc, ◌+◌, ◌*◌, ◌<◌, ◌≤◌, ◌^◌, List, [], ◌∷◌, ◌++◌, length, arith, length-append}
+use Rattle.std.proofs.Common.{◌≡◌, ℕ, zero, suc, ◌+◌, ◌*◌, ◌<◌, ◌^◌, List, [], ◌∷◌, length, arith, length-append}
 use Rattle.std.specs.Int.{w32, to_be_bytes}
 use Rattle.std.specs.List.{All, flat_map}
-use Rattle.ord_types.specs.Spelling.{Config, config_text, ids_text, sig_text}
+use Rattle.ord_types.specs.Spelling.{Config, config_text, sig_text}
 use Rattle.ord_types.specs.Grammar.{HasBlockSpelling, HasRequestSpelling}
 use Rattle.ord_types.specs.Lengths.{FitsBlock, FitsConfig, FitsRequest}
 use Rattle.ord_types.specs.Genesis.{IsGenesisConfig, genesis_block, genesis_request, genesis_sig}
