@@ -1,5 +1,5 @@
 -- What has a spelling has lengths that fit their fields.
-use Rattle.std.proofs.Common.{ℕ, ◌<◌, ◌≤◌, arith, List, length, get_or}
+use Rattle.std.proofs.Common.{arith, List, get_or}
 use Rattle.ord_types.specs.Spelling.{Block, Cert, Config, Meta, Request, Sig}
 use Rattle.ord_types.specs.Lengths.{FitsBlock, FitsCert, FitsConfig, FitsMeta, FitsRequest, FitsRequests, FitsSig}
 use Rattle.ord_types.specs.Grammar.{HasBlockSpelling, HasCertSpelling, HasConfigSpelling, HasMetaSpelling, HasRequestSpelling, HasRequestsSpelling, HasSigSpelling}

@@ -1,8 +1,7 @@
 -- Block 0 of a chain.
-use Rattle.std.specs.Prelude.{◌≡◌, ℕ, ◌+◌, ◌≤◌, ◌<◌, ◌^◌, List, [], ◌∷◌, ◌++◌, length, replicate}
-use Rattle.ord_types.specs.declared.values.Mode.TheVariants.{Normal}
+use Rattle.std.specs.Prelude.{◌≡◌, ℕ, ◌≤◌, List, [], ◌∷◌, ◌++◌, length, replicate}
 use Rattle.ord_types.specs.declared.values.ReqKind.TheVariants.{Change}
-use Rattle.ord_types.specs.Spelling.{Batch, Block, Config, Meta, Request, Sig, config_text, sig_text}
+use Rattle.ord_types.specs.Spelling.{Block, Config, Meta, Request, Sig, config_text, sig_text}
 use Rattle.ord_types.specs.Grammar.{HasIdsSpelling}
 use Rattle.ord_types.specs.Hashes.{content_hash, meta_hash}
 

@@ -1,5 +1,5 @@
 -- Values that have a spelling. A decoder gives no other values. Numbers are within their types.
-use Rattle.std.specs.Prelude.{◌≡◌, ◌≢◌, ℕ, ◌+◌, ◌<◌, ◌≤◌, ◌^◌, List, length, map, slice_index}
+use Rattle.std.specs.Prelude.{◌≢◌, ℕ, ◌+◌, ◌<◌, ◌≤◌, ◌^◌, List, length, map, slice_index}
 use Rattle.std.specs.List.{All}
 use Rattle.ord_types.specs.Spelling.{Block, Cert, Config, Header, Meta, Request, Sig}
 

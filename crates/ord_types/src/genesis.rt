@@ -1,6 +1,6 @@
 ghost use Rattle.std.specs.Prelude.{◌≡◌, IfOk};
 ghost use Rattle.ord_types.specs.Genesis.{genesis_block, genesis_meta, genesis_request};
-ghost use Rattle.ord_types.specs.Lengths.{FitsConfig};
+ghost use Rattle.ord_types.specs.Lengths.{FitsBlock, FitsConfig};
 
 use crate::hashes::{content_hash, meta_hash};
 use crate::lists::{Bytes, List, NoMemory};
@@ -44,10 +44,11 @@ fn genesis_meta(alloc: Global) -> Meta
 
 /// Block 0 of the chain that begins with this configuration. It stands behind a zero hash, and its one
 /// request is the configuration.
-#[tactic(auto, using(crate::proofs::Sizes::genesis_fits), unfolding(crate::specs::Genesis::genesis_block))]
+#[tactic(auto, using(crate::proofs::Sizes::genesis_fits, crate::proofs::Sizes::genesis_block_fits), unfolding(crate::specs::Genesis::genesis_block))]
 pub fn genesis_block(alloc: Global, config: &Config) -> Result<Block, NoMemory>
     requires { FitsConfig config.now }
-    ensures { IfOk result (λ block. block ≡ genesis_block config.now) }
+    ensures block { IfOk result (λ block. block ≡ genesis_block config.now) }
+    ensures fits { IfOk result FitsBlock }
 {
     let mut requests = List::new(alloc);
     requests.push(genesis_request(alloc, config)?)?;

@@ -9,6 +9,8 @@ mod members;
 mod memory;
 mod outside;
 mod spelling;
+#[cfg(test)]
+mod tests;
 mod values;
 mod writing;
 
