@@ -1,6 +1,6 @@
 -- The test of a certificate, its first refusal, and what a certificate is.
 use Rattle.std.proofs.lemmas.Bool.{and_parts, and_from, leb-true, le-leb}
-use Rattle.std.proofs.lemmas.List.Elements.{All-nil, All-cons, All-head, All-tail}
+use Rattle.std.proofs.lemmas.List.Elements.{All-nil, All-cons, All-head, All-tail, All-weaker}
 use Rattle.std.proofs.Common.{◌≡◌, ℕ, ◌+◌, ◌<◌, Bool, true, false, ◌&&◌, ◌||◌, not, suc, if◌then◌else◌, ◌==◌, Ok, Err, List, [], ◌∷◌, length, get_or, drop, refl, sym, ◌∙◌, ap, arith, add-one, drop-cons, None, Some}
 use Rattle.std.specs.Prelude.{IsTrue, All, IsOk, is_ok, Result, Option, nat_le, ◌↔◌}
 use Rattle.std.specs.Option.{is_none, option_or}
@@ -11,6 +11,7 @@ use Rattle.ord_types.specs.declared.values.Config.{Config}
 use Rattle.ord_types.specs.declared.values.Sig.{Sig}
 use Rattle.ord_types.specs.Members.{is_in, how_many_in, quorum}
 use Rattle.signer_edge.specs.Accepts.{Accepts}
+use Rattle.signer_edge.specs.Signing.{KeepsAccepted}
 use Rattle.signer_edge.specs.Certificates.{IsCertificate, cert_refusal, cert_statement, few_refusal, is_good_cert, sig_refusal, sigs_refusal, signers_in, signers_of}
 use Rattle.signer_edge.specs.declared.certificates.CertRefusal.{CertRefusal}
 use Rattle.signer_edge.specs.declared.certificates.CertRefusal.TheVariants.{Stranger, Bad}
@@ -121,7 +122,8 @@ list_all-both accepts members statement (sig ∷ sigs) inside accepted =
     let here = and_from (is_in sig.signer members) (accepts statement sig) (All-head Inside sig.signer (signers_in sigs) inside) (All-head Accepted sig sigs accepted) in
     and_from (is_in sig.signer members && accepts statement sig) (list_all (λ (sig : Sig). is_in sig.signer members && accepts statement sig) sigs) here rest
 
-good-means : (accepts : Accepts) (c : Config) (number : ℕ) (hash : List ℕ) (cert : Cert) → is_good_cert accepts c number hash cert ≡ true → IsCertificate accepts c number hash cert
+-- the test holds exactly at a certificate
+pub good-means : (accepts : Accepts) (c : Config) (number : ℕ) (hash : List ℕ) (cert : Cert) → is_good_cert accepts c number hash cert ≡ true → IsCertificate accepts c number hash cert
 good-means accepts c number hash cert h =
     let parts =
     and_parts
@@ -135,7 +137,7 @@ good-means accepts c number hash cert h =
       enough = leb-true (quorum (length c.members)) (how_many_in (signers_of cert) c.members) parts.1;
     }
 
-means-good : (accepts : Accepts) (c : Config) (number : ℕ) (hash : List ℕ) (cert : Cert) → IsCertificate accepts c number hash cert → is_good_cert accepts c number hash cert ≡ true
+pub means-good : (accepts : Accepts) (c : Config) (number : ℕ) (hash : List ℕ) (cert : Cert) → IsCertificate accepts c number hash cert → is_good_cert accepts c number hash cert ≡ true
 means-good accepts c number hash cert h =
     and_from
     (list_all (λ (sig : Sig). is_in sig.signer c.members && accepts (cert_statement c number hash cert) sig) cert.sigs)
@@ -149,3 +151,17 @@ pub IsOk-proves : {T : Type 0} (r : Result T CertRefusal) (accepts : Accepts) (c
 IsOk-proves r accepts c number hash cert h =
     let same : is_ok r ≡ is_good_cert accepts c number hash cert = is_ok-good r accepts c number hash cert h in
     ((λ ok. good-means accepts c number hash cert (sym same ∙ ok)), (λ is. same ∙ means-good accepts c number hash cert is))
+
+-- a certificate stays one while what was accepted still is
+pub IsCertificate-kept : (old new : Accepts) (c : Config) (number : ℕ) (hash : List ℕ) (cert : Cert) → KeepsAccepted old new → IsCertificate old c number hash cert → IsCertificate new c number hash cert
+IsCertificate-kept old new c number hash cert kept h =
+    let statement = cert_statement c number hash cert in
+    record {
+      members = h.members;
+      accepted = All-weaker (λ sig. IsTrue (old statement sig)) (λ sig. IsTrue (new statement sig)) (λ sig. kept statement sig) cert.sigs h.accepted;
+      enough = h.enough;
+    }
+
+pub is_good_cert-kept : (old new : Accepts) (c : Config) (number : ℕ) (hash : List ℕ) (cert : Cert) → KeepsAccepted old new → is_good_cert old c number hash cert ≡ true → is_good_cert new c number hash cert ≡ true
+is_good_cert-kept old new c number hash cert kept h =
+    means-good new c number hash cert (IsCertificate-kept old new c number hash cert kept (good-means old c number hash cert h))

@@ -1,7 +1,6 @@
 -- Certificates: a quorum's signatures on one block (SmartBFT).
-use Rattle.std.specs.Prelude.{ℕ, ◌≤◌, Bool, ◌&&◌, not, nat_le, nat_lt, List, [], ◌∷◌, length, map, All, IsTrue, if◌then◌else◌}
+use Rattle.std.specs.Prelude.{ℕ, ◌≤◌, Bool, ◌&&◌, not, nat_le, nat_lt, List, [], ◌∷◌, length, map, All, IsTrue, if◌then◌else◌, Option, Some, None}
 use Rattle.std.specs.List.{list_all}
-use Rattle.std.specs.Prelude.{Option, Some, None}
 use Rattle.std.specs.Option.{option_or}
 use Rattle.ord_types.specs.declared.values.Cert.{Cert}
 use Rattle.ord_types.specs.declared.values.Config.{Config}
@@ -38,12 +37,14 @@ is_good_cert accepts c number hash cert =
 -- what is wrong with a signature
 abbrev pub sig_refusal : Accepts → List ℕ → List ℕ → Sig → Option CertRefusal
 sig_refusal accepts members statement sig =
-    if not (is_in sig.signer members) then Some (Stranger sig.signer) else if not (accepts statement sig) then Some (Bad sig.signer) else None
+    if not (is_in sig.signer members) then Some (Stranger sig.signer)
+    else if not (accepts statement sig) then Some (Bad sig.signer) else None
 
 -- what is wrong with the first bad one
 abbrev pub sigs_refusal : Accepts → List ℕ → List ℕ → List Sig → Option CertRefusal
 sigs_refusal accepts members statement [] = None
-sigs_refusal accepts members statement (sig ∷ sigs) = option_or (sig_refusal accepts members statement sig) (sigs_refusal accepts members statement sigs)
+sigs_refusal accepts members statement (sig ∷ sigs) =
+    option_or (sig_refusal accepts members statement sig) (sigs_refusal accepts members statement sigs)
 
 -- too few members signed
 abbrev pub few_refusal : ℕ → ℕ → Option CertRefusal

@@ -1,18 +1,17 @@
 -- What a signer's answer means.
-use Rattle.std.specs.Prelude.{◌≡◌, ℕ, ◌≤◌, List, [], ◌∷◌, ◌++◌, true}
-use Rattle.std.specs.Prelude.{Option}
+use Rattle.std.specs.Prelude.{◌≡◌, ℕ, ◌≤◌, List, [], ◌∷◌, ◌++◌, length, true, Option, Result, Ok, Err}
 use Rattle.std.specs.Option.{option_map}
-use Rattle.std.specs.Prelude.{Result, Ok, Err}
 use Rattle.ord_types.specs.Causes.{Rose}
 use Rattle.ord_types.specs.declared.values.Sig.{Sig}
 use Rattle.signer_edge.specs.Accepts.{Accepts}
 use Rattle.signer_edge.specs.declared.signing.SignFault.{SignFault}
 use Rattle.signer_edge.specs.declared.signing.SignFault.TheVariants.{Failed, NoMemory}
 
--- a signature of this signer, accepted on the statement
+-- a signature of this signer, accepted on the statement, and not too long to be spelled
 pub record IsSignatureOf (id : ℕ) (accepts : Accepts) (statement : List ℕ) (sig : Sig) : Type 0 where
   pub signer : sig.signer ≡ id
   pub accepted : accepts statement sig ≡ true
+  pub short : length sig.bytes ≤ 2048
 
 -- an Ok is a signature of this signer
 abbrev pub IfSigned : Result Sig SignFault → ℕ → Accepts → List ℕ → Type 0

@@ -47,7 +47,9 @@ impl SealBox {
     fn add(&mut self, signer: u32, statement: &[u8]) -> Result<Bytes, NoMemory>
         ensures small { length self.old < 2 ^ 64 }
         ensures place { IfOk result (λ place. place ≡ to_be_bytes w64 (length self.old)) }
-        ensures ok { OnOk result (self.new ≡ self.old ++ record { signer = signer; statement = statement.now } ∷ []) }
+        ensures ok { OnOk result (
+            self.new ≡ self.old ++ record { signer = signer; statement = statement.now } ∷ []
+            ) }
         ensures err { OnErr result (self.new ≡ self.old) }
     {
         let place = self.seals.len() as u64;

@@ -38,9 +38,12 @@ pub fn check_cert<V: Verifier>(
 ) -> Result<(), CertRefusal>
     requires some { 1 ≤ length config.now.members }
     requires few { length config.now.members ≤ 31 }
-    ensures refusal { result_err result ≡ cert_refusal (V.accepts verifier.now) config.now number hash.now cert.now }
-    ensures proves { IsOk result ↔ IsCertificate (V.accepts verifier.now) config.now number hash.now cert.now }
-    ensures good { is_ok result ≡ is_good_cert (V.accepts verifier.now) config.now number hash.now cert.now }
+    ensures refusal { let accepts = V.accepts verifier.now in
+        result_err result ≡ cert_refusal accepts config.now number hash.now cert.now }
+    ensures proves { let accepts = V.accepts verifier.now in
+        IsOk result ↔ IsCertificate accepts config.now number hash.now cert.now }
+    ensures good { let accepts = V.accepts verifier.now in
+        is_ok result ≡ is_good_cert accepts config.now number hash.now cert.now }
 {
     let statement = commit_statement(config.number, cert.view, number, hash);
     check_sigs(&config.members, &statement, &cert.sigs, verifier)?;
@@ -59,7 +62,8 @@ fn check_sigs<V: Verifier>(
     sigs: &List<Sig>,
     verifier: &V,
 ) -> Result<(), CertRefusal>
-    ensures { result_err result ≡ sigs_refusal (V.accepts verifier.now) members.now statement.now sigs.now }
+    ensures { let accepts = V.accepts verifier.now in
+        result_err result ≡ sigs_refusal accepts members.now statement.now sigs.now }
 {
     for sig in sigs.as_slice() {
         if !members.as_slice().contains(&sig.signer) {

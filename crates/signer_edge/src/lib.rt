@@ -6,6 +6,8 @@ mod certificates;
 mod seals;
 mod signing;
 mod statements;
+#[cfg(test)]
+mod tests;
 
 pub use boxes::{SealBox, SealSeat};
 pub use certificates::{CertRefusal, check_cert};

@@ -1,13 +1,5 @@
-ghost use Rattle.std.specs.Prelude.{◌≡◌, ℕ, List, Option, Result};
-ghost use Rattle.ord_types.specs.declared.values.Sig.{Sig};
+ghost use Rattle.std.specs.Prelude.{◌≡◌};
 ghost use Rattle.signer_edge.specs.Accepts.{Accepts};
-ghost use Rattle.signer_edge.specs.Signing.{
-  HasSignCause,
-  IfSigned,
-  KeepsAccepted,
-  OnNoMemory,
-  signed_after,
-};
 
 use ord_types::{NoMemory, Sig};
 
