@@ -1,3 +1,4 @@
+pub mod Cores
 pub mod Pools
 pub mod Texts
 pub mod Turns

@@ -121,7 +121,6 @@ first_config members =
 abbrev pub first_world : {S T : Type 0} → Setting S T → Config → World S T
 first_world setting c =
     record {
-      config = c;
       nodes = map (λ id. record { id = id; state = setting.ways.opens c id; pool = [] }) c.members;
       network = [];
       seals = [];

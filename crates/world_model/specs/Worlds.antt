@@ -3,7 +3,7 @@ use Rattle.std.specs.Prelude.{ℕ, zero, suc, Bool, true, false, ◌&&◌, ◌==
 use Rattle.std.specs.Int.{w64, to_be_bytes}
 use Rattle.std.specs.List.{flat_map, find}
 use Rattle.ord_types.specs.Members.{is_in}
-use Rattle.safety_model.specs.Blocks.{Config, Request}
+use Rattle.safety_model.specs.Blocks.{Request}
 use Rattle.safety_model.specs.declared.fact.Fact.{Fact}
 use Rattle.safety_model.specs.declared.fact.Fact.TheVariants.{Delivered}
 use Rattle.signer_edge.specs.declared.seals.Seal.{Seal}
@@ -33,7 +33,6 @@ pub record Entry : Type 0 where
 
 -- nodes by rising id; entries and seals in the order in which they were made
 pub record World (S T : Type 0) : Type 0 where
-  pub config : Config
   pub nodes : List (Node S)
   pub network : List Entry
   pub seals : List Seal
@@ -87,7 +86,6 @@ sent_by i posts = map (λ (post : Post). record { from = i; to = post.to; messag
 abbrev pub world_after : {S T : Type 0} → Setting S T → World S T → Node S → Making S → World S T
 world_after setting w node m =
     record {
-      config = w.config;
       nodes = with_node (node_after node m) w.nodes;
       network = w.network ++ sent_by node.id m.posts;
       seals = w.seals ++ seals_of node.id m.signed;

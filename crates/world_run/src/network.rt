@@ -1,4 +1,9 @@
 //! The messages that were sent.
+ghost use Rattle.std.specs.Prelude.{◌≡◌, ◌++◌, OnOk, map};
+ghost use Rattle.node_model.specs.Steps.{to_all};
+ghost use Rattle.world_model.specs.Worlds.{sent_by};
+ghost use Rattle.world_run.specs.Mapped.{entry_of};
+
 use bft_wire::Message;
 use ord_types::NoMemory;
 use std::alloc::Global;
@@ -21,7 +26,9 @@ pub(crate) fn send_to_all(
     from: u32,
     message: Message,
     network: &mut Vec<Entry>,
-) -> Result<(), NoMemory> {
+) -> Result<(), NoMemory>
+    ensures { OnOk result (map entry_of network.new.items ≡ map entry_of network.old.items ++ sent_by from (to_all members.now from message)) }
+{
     let shared = Rc::new(alloc, message)?;
     for to in members {
         if *to != from {

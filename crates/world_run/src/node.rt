@@ -1,10 +1,30 @@
 //! A node of the world, and its steps.
+ghost use Rattle.std.specs.Prelude.{◌≡◌, ◌≢◌, ◌∷◌, ◌++◌, [], ◌<◌, ◌≤◌, ◌^◌, IfOk, OnOk, Some, None, length, map, string_bytes, suc, zero};
+ghost use Rattle.std.specs.List.{flat_map};
+ghost use Rattle.ord_types.specs.Genesis.{IsGenesisConfig};
+ghost use Rattle.ord_types.specs.Hashes.{block_hash};
+ghost use Rattle.signer_edge.specs.Seals.{SealsOne, next_sig, with_seal};
+ghost use Rattle.bft_wire.specs.declared.message.Message.TheVariants as message_of;
+ghost use Rattle.node_model.specs.declared.act.Act.TheVariants as act_of;
+ghost use Rattle.node_model.specs.Acts.{View, carried_cert, due, may_propose, proposed};
+ghost use Rattle.node_model.specs.Answers.{after_act};
+ghost use Rattle.node_model.specs.Cores.{Core, core_opens, core_ways, first_place, next_place};
+ghost use Rattle.node_model.specs.Steps.{
+    FromMember, Making, Tick, begins, commit_message, makes_accepted, makes_delivered, makes_prepared, next, own_rule,
+    prepare_message, preprepare_message, rounds, to_all, votes,
+};
+ghost use Rattle.view_core.specs.Places.{IsPlace};
+ghost use Rattle.world_model.specs.Worlds.{requests_in, sent_by, tick_of};
+ghost use Rattle.world_run.specs.Making.{Before, IsDelivery, IsDue, Makes, Stands, keys_before};
+ghost use Rattle.world_run.specs.Mapped.{core_of, entry_of, node_of};
+ghost use Rattle.world_run.specs.Standing.{IsAt};
+
 use crate::network::{Entry, send_to_all};
 use crate::pool::{offer, settle};
 use crate::texts::put_block;
 use bft_wire::{Commit, Message, PrePrepare, Prepare};
 use ord_types::{
-    Block, Cert, Config, Copied, Digest, List, NoMemory, Place, block_hash, genesis_block,
+    Block, Cert, Config, Copied, Digest, NoMemory, Place, Request, Sig, block_hash, genesis_block,
 };
 use signer_edge::{SealSeat, SignFault, Signer, commit_statement};
 use std::alloc::Global;
@@ -19,7 +39,10 @@ pub(crate) struct Node {
     pub(crate) id: u32,
     pub(crate) place: Place,
     pub(crate) view: ViewState,
-    pub(crate) pool: Vec<ord_types::Request>,
+    pub(crate) pool: Vec<Request>,
+    ghost is_me: { view.me ≡ id },
+    ghost standing: { IsPlace place },
+    ghost is_at: { IsAt place view },
 }
 
 /// What a step of a node reaches outside the node: the box of seals, the network, and the line of the
@@ -33,7 +56,12 @@ pub(crate) struct Outside {
     pub(crate) text: String,
 }
 
-fn first_place(alloc: Global, config: &Config) -> Result<Place, NoMemory> {
+/// The place on the first block of a configuration.
+fn first_place(alloc: Global, config: &Config) -> Result<Place, NoMemory>
+    requires { IsGenesisConfig config.now }
+    ensures place { IfOk result (λ place. place ≡ first_place config.now) }
+    ensures standing { IfOk result IsPlace }
+{
     let genesis = genesis_block(alloc, config)?;
     Ok(Place {
         config: config.copy()?,
@@ -46,7 +74,9 @@ fn first_place(alloc: Global, config: &Config) -> Result<Place, NoMemory> {
 }
 
 /// The certificate that a proposal carries.
-fn carried_cert(place: &Place) -> Result<Option<Cert>, NoMemory> {
+fn carried_cert(place: &Place) -> Result<Option<Cert>, NoMemory>
+    ensures { IfOk result (λ cert. cert ≡ carried_cert place.now) }
+{
     if place.height == place.start {
         return Ok(None);
     }
@@ -56,7 +86,11 @@ fn carried_cert(place: &Place) -> Result<Option<Cert>, NoMemory> {
     }
 }
 
-fn signed(seat: &mut SealSeat, statement: &[u8]) -> Result<ord_types::Sig, NoMemory> {
+/// Signs a statement. A box of seals never fails but for want of memory.
+fn signed(seat: &mut SealSeat, statement: &[u8]) -> Result<Sig, NoMemory>
+    ensures sig { IfOk result (λ sig. sig ≡ next_sig seat.old) }
+    ensures seat { OnOk result (seat.new ≡ with_seal seat.old statement.now) }
+{
     match seat.sign(statement) {
         Ok(sig) => Ok(sig),
         Err(SignFault::Failed) => Err(NoMemory),
@@ -66,7 +100,12 @@ fn signed(seat: &mut SealSeat, statement: &[u8]) -> Result<ord_types::Sig, NoMem
 
 impl Node {
     /// A node on the first block of a configuration.
-    pub(crate) fn new(alloc: Global, config: &Config, id: u32) -> Result<Node, NoMemory> {
+    pub(crate) fn new(alloc: Global, config: &Config, id: u32) -> Result<Node, NoMemory>
+        requires { IsGenesisConfig config.now }
+        ensures id { IfOk result (λ node. node.id ≡ id) }
+        ensures core { IfOk result (λ node. record { place = node.place; view = node.view } ≡ core_opens config.now id) }
+        ensures pool { IfOk result (λ node. node.pool.items ≡ []) }
+    {
         let place = first_place(alloc, config)?;
         let mut view = ViewState::new(alloc, id)?;
         view.go_to(&place);
@@ -78,13 +117,23 @@ impl Node {
         })
     }
 
-    fn send(&self, message: Message, outside: &mut Outside) -> Result<(), NoMemory> {
+    fn send(&self, message: Message, outside: &mut Outside) -> Result<(), NoMemory>
+        ensures sent { OnOk result (map entry_of outside.new.network.items ≡ map entry_of outside.old.network.items ++ sent_by self.now.id (to_all self.now.place.config.members self.now.id message)) }
+        ensures seat { outside.new.seat ≡ outside.old.seat }
+        ensures number { outside.new.number ≡ outside.old.number }
+        ensures text { outside.new.text ≡ outside.old.text }
+    {
         let members = self.place.config.members.as_slice();
         send_to_all(outside.alloc, members, self.id, message, &mut outside.network)
     }
 
     /// What follows an acceptance.
-    fn send_prepare(&self, block: &Block, outside: &mut Outside) -> Result<(), NoMemory> {
+    fn send_prepare(&self, block: &Block, outside: &mut Outside) -> Result<(), NoMemory>
+        ensures sent { OnOk result (map entry_of outside.new.network.items ≡ map entry_of outside.old.network.items ++ sent_by self.now.id (to_all self.now.place.config.members self.now.id (prepare_message self.now.place self.now.view block.now))) }
+        ensures seat { outside.new.seat ≡ outside.old.seat }
+        ensures number { outside.new.number ≡ outside.old.number }
+        ensures text { outside.new.text ≡ outside.old.text }
+    {
         let prepare = Prepare {
             config: self.place.config.number,
             view: self.view.view(),
@@ -95,7 +144,12 @@ impl Node {
     }
 
     /// What follows a proposal.
-    fn send_proposal(&self, block: Block, outside: &mut Outside) -> Result<(), NoMemory> {
+    fn send_proposal(&self, block: Block, outside: &mut Outside) -> Result<(), NoMemory>
+        ensures sent { OnOk result (map entry_of outside.new.network.items ≡ map entry_of outside.old.network.items ++ sent_by self.now.id (flat_map (to_all self.now.place.config.members self.now.id) (preprepare_message self.now.place self.now.view block ∷ prepare_message self.now.place self.now.view block ∷ []))) }
+        ensures seat { outside.new.seat ≡ outside.old.seat }
+        ensures number { outside.new.number ≡ outside.old.number }
+        ensures text { outside.new.text ≡ outside.old.text }
+    {
         let digest = block_hash(&block.header);
         let proposal = PrePrepare {
             config: self.place.config.number,
@@ -116,7 +170,10 @@ impl Node {
 
     /// What follows a preparation: the signature, a Commit to all, and the own one. The answer is the next
     /// act that is due.
-    fn commit(&mut self, digest: Digest, outside: &mut Outside) -> Result<Act, NoMemory> {
+    fn commit(&mut self, digest: Digest, outside: &mut Outside) -> Result<Act, NoMemory>
+        ensures makes { IfOk result (λ told. (b : Before) (m : Making Core) → Makes b m (act_of.Prepare digest) self.old outside.old → Makes b (makes_prepared core_ways (keys_before b) digest m) told self.new outside.new) }
+        ensures due { IfOk result (λ told. (b : Before) (m : Making Core) → Makes b m (act_of.Prepare digest) self.old outside.old → IsDue b (makes_prepared core_ways (keys_before b) digest m) told) }
+    {
         let config = self.place.config.number;
         let view = self.view.view();
         let number = self.place.height;
@@ -135,7 +192,9 @@ impl Node {
     }
 
     /// What follows a delivery: the line of the block, and the next place.
-    fn deliver(&mut self, block: Block, cert: Cert, outside: &mut Outside) -> Result<(), NoMemory> {
+    fn deliver(&mut self, block: Block, cert: Cert, outside: &mut Outside) -> Result<(), NoMemory>
+        ensures { OnOk result ((b : Before) (m : Making Core) → Makes b m (act_of.Deliver block cert) self.old outside.old → Makes b (makes_delivered core_ways block cert m) act_of.Kept self.new outside.new) }
+    {
         if self.place.height + 1 >= MOST_NUMBER || block.meta.decided >= MOST_NUMBER {
             return Err(NoMemory);
         }
@@ -150,7 +209,10 @@ impl Node {
     }
 
     /// Accepts and prepares what is due, from a told act on. The answer is the act that is due then.
-    fn votes(&mut self, told: Act, outside: &mut Outside) -> Result<Act, NoMemory> {
+    fn votes(&mut self, told: Act, outside: &mut Outside) -> Result<Act, NoMemory>
+        ensures makes { IfOk result (λ next. (b : Before) (m : Making Core) → Makes b m told self.old outside.old → IsDue b m told → Makes b (votes core_ways (keys_before b) m) next self.new outside.new) }
+        ensures due { IfOk result (λ next. (b : Before) (m : Making Core) → Makes b m told self.old outside.old → IsDue b m told → IsDelivery (votes core_ways (keys_before b) m) next) }
+    {
         let mut act = told;
         if let Act::Accept(block) = act {
             self.send_prepare(&block, outside)?;
@@ -163,7 +225,9 @@ impl Node {
     }
 
     /// Does all that is due from a told act on: votes, a delivery, and the same at the next number.
-    fn rounds(&mut self, told: Act, outside: &mut Outside) -> Result<(), NoMemory> {
+    fn rounds(&mut self, told: Act, outside: &mut Outside) -> Result<(), NoMemory>
+        ensures { OnOk result ((b : Before) (m : Making Core) → Makes b m told self.old outside.old → IsDue b m told → Makes b (rounds core_ways (keys_before b) 2 m) act_of.Kept self.new outside.new) }
+    {
         let Act::Deliver(block, cert) = self.votes(told, outside)? else {
             return Ok(());
         };
@@ -176,7 +240,9 @@ impl Node {
     }
 
     /// A tick: the leader proposes what its pool offers.
-    pub(crate) fn tick(&mut self, outside: &mut Outside) -> Result<(), NoMemory> {
+    pub(crate) fn tick(&mut self, outside: &mut Outside) -> Result<(), NoMemory>
+        ensures { OnOk result ((b : Before) → Stands b self.old outside.old → Makes b (next core_ways (keys_before b) (core_of self.old) (tick_of core_ways (node_of self.old))) act_of.Kept self.new outside.new) }
+    {
         if self.view.may_propose(&self.place) {
             let offer = offer(outside.alloc, self.pool.as_slice())?;
             if let Act::Accept(block) = self.view.propose(&self.place, offer, &outside.seat)? {
@@ -188,7 +254,11 @@ impl Node {
     }
 
     /// What a Prepare brings: the act that is due with it.
-    fn prepared(&mut self, from: u32, message: &Prepare, outside: &Outside) -> Result<Act, NoMemory> {
+    fn prepared(&mut self, from: u32, message: &Prepare, outside: &Outside) -> Result<Act, NoMemory>
+        requires { from ≢ self.old.id }
+        ensures makes { IfOk result (λ told. (b : Before) → Stands b self.old outside.now → Makes b (begins core_ways (keys_before b) (core_of self.old) (FromMember (record { from = from; message = message_of.Prepare message.now }))) told self.new outside.now) }
+        ensures due { IfOk result (λ told. (b : Before) → Stands b self.old outside.now → IsDue b (begins core_ways (keys_before b) (core_of self.old) (FromMember (record { from = from; message = message_of.Prepare message.now }))) told) }
+    {
         match self.view.on_prepare(&self.place, from, message) {
             Act::Prepare(digest) => Ok(Act::Prepare(digest)),
             _ => self.view.due(&self.place, &outside.seat),
@@ -201,7 +271,13 @@ impl Node {
         from: u32,
         message: &Message,
         outside: &mut Outside,
-    ) -> Result<(), NoMemory> {
+    ) -> Result<(), NoMemory>
+        ensures { OnOk result ((b : Before) → Stands b self.old outside.old → Makes b (next core_ways (keys_before b) (core_of self.old) (FromMember (record { from = from; message = message.now }))) act_of.Kept self.new outside.new) }
+    {
+        if from == self.id {
+            let told = self.view.due(&self.place, &outside.seat)?;
+            return self.rounds(told, outside);
+        }
         let told = match message {
             Message::PrePrepare(message) => {
                 self.view

@@ -1,4 +1,8 @@
 //! The waiting requests of a node.
+ghost use Rattle.std.specs.Prelude.{◌≡◌, IfOk};
+ghost use Rattle.world_model.specs.Pools.{answer, has_id, offer, pool_after, settled};
+ghost use Rattle.world_run.specs.Answers.{answer_of};
+
 use ord_types::{Copied, List, NoMemory, ReqId, Request};
 use std::alloc::Global;
 
@@ -17,12 +21,17 @@ pub(crate) enum Answer {
     KnownPending,
 }
 
-fn has_id(id: ReqId, requests: &[Request]) -> bool {
+fn has_id(id: ReqId, requests: &[Request]) -> bool
+    ensures { result ≡ has_id id requests.now }
+{
     requests.iter().any(|request| request.id == id)
 }
 
 /// Submits a request to a pool.
-pub(crate) fn submit(pool: &mut Vec<Request>, request: Request) -> Result<Answer, NoMemory> {
+pub(crate) fn submit(pool: &mut Vec<Request>, request: Request) -> Result<Answer, NoMemory>
+    ensures answer { IfOk result (λ given. answer_of given ≡ answer pool.old.items request) }
+    ensures after { IfOk result (λ given. pool.new.items ≡ pool_after pool.old.items request (answer pool.old.items request)) }
+{
     if request.payload.len() > MOST_PAYLOAD {
         return Ok(Answer::Malformed(PLACE_OF_LENGTH));
     }
@@ -34,7 +43,9 @@ pub(crate) fn submit(pool: &mut Vec<Request>, request: Request) -> Result<Answer
 }
 
 /// What a pool offers for the next block: its first request.
-pub(crate) fn offer(alloc: Global, pool: &[Request]) -> Result<List<Request>, NoMemory> {
+pub(crate) fn offer(alloc: Global, pool: &[Request]) -> Result<List<Request>, NoMemory>
+    ensures { IfOk result (λ offered. offered ≡ offer pool.now) }
+{
     let mut offer = List::new(alloc);
     if let [first, ..] = pool {
         offer.push(first.copy()?)?;
@@ -43,6 +54,8 @@ pub(crate) fn offer(alloc: Global, pool: &[Request]) -> Result<List<Request>, No
 }
 
 /// Drops the requests that were delivered.
-pub(crate) fn settle(pool: &mut Vec<Request>, delivered: &[Request]) {
+pub(crate) fn settle(pool: &mut Vec<Request>, delivered: &[Request])
+    ensures { pool.new.items ≡ settled delivered.now pool.old.items }
+{
     pool.retain(|request| !has_id(request.id, delivered));
 }

@@ -46,7 +46,7 @@ fn submit(
     payload: Bytes,
 ) -> Result<Option<Ending>, NoMemory> {
     match world.find(node) {
-        Some(place) => world.submit(place, id, payload)?,
+        Some(place) => world.submit(node, place, id, payload)?,
         None => put_refused(&mut world.outside.text, world.outside.number, "unknown node")?,
     }
     Ok(None)

@@ -1,70 +1,116 @@
 //! The lines that a world prints.
-ghost use Rattle.std.specs.Prelude.{◌≡◌, ◌++◌, OnOk, string_bytes, flat_map};
+ghost use Rattle.std.specs.Prelude.{◌≡◌, ◌++◌, OnOk, string_bytes, length};
+ghost use Rattle.ord_types.specs.declared.values.Proof.TheVariants as proof_of;
+ghost use Rattle.safety_model.specs.Facts.{signers_of};
+ghost use Rattle.world_model.specs.Texts.{
+    admitted_text, block_front_text, block_text, deliver_text, flush_text, genesis_text, id_text, limit_text,
+    malformed_text, node_text, pending_text, refused_text, requests_count_text, sent_text, signers_text, tick_text,
+    view_text,
+};
 
 use ord_types::{Block, Cert, ReqId};
 use std::alloc::AllocError;
 
-pub(crate) fn put_genesis(text: &mut String, number: u64) -> Result<(), AllocError> {
+#[tactic(auto, unfolding(world_model::specs::Texts::genesis_text))]
+pub(crate) fn put_genesis(text: &mut String, number: u64) -> Result<(), AllocError>
+    ensures { OnOk result (string_bytes text.new ≡ string_bytes text.old ++ genesis_text number) }
+{
     write!(text, "{number} genesis\n")
 }
 
-pub(crate) fn put_tick(text: &mut String, number: u64, node: u32) -> Result<(), AllocError> {
+#[tactic(auto, unfolding(world_model::specs::Texts::tick_text))]
+pub(crate) fn put_tick(text: &mut String, number: u64, node: u32) -> Result<(), AllocError>
+    ensures { OnOk result (string_bytes text.new ≡ string_bytes text.old ++ tick_text number node) }
+{
     write!(text, "{number} tick {node}\n")
 }
 
-pub(crate) fn put_deliver(text: &mut String, number: u64, count: u64) -> Result<(), AllocError> {
+#[tactic(auto, unfolding(world_model::specs::Texts::deliver_text))]
+pub(crate) fn put_deliver(text: &mut String, number: u64, count: u64) -> Result<(), AllocError>
+    ensures { OnOk result (string_bytes text.new ≡ string_bytes text.old ++ deliver_text number count) }
+{
     write!(text, "{number} deliver {count}\n")
 }
 
-pub(crate) fn put_flush(text: &mut String, number: u64, count: u64) -> Result<(), AllocError> {
+#[tactic(auto, unfolding(world_model::specs::Texts::flush_text))]
+pub(crate) fn put_flush(text: &mut String, number: u64, count: u64) -> Result<(), AllocError>
+    ensures { OnOk result (string_bytes text.new ≡ string_bytes text.old ++ flush_text number count) }
+{
     write!(text, "{number} flush {count}\n")
 }
 
-pub(crate) fn put_refused(text: &mut String, number: u64, reason: &str) -> Result<(), AllocError> {
+#[tactic(auto, unfolding(world_model::specs::Texts::refused_text))]
+pub(crate) fn put_refused(text: &mut String, number: u64, reason: &str) -> Result<(), AllocError>
+    ensures { OnOk result (string_bytes text.new ≡ string_bytes text.old ++ refused_text number reason.now) }
+{
     write!(text, "{number} refused {reason}\n")
 }
 
-pub(crate) fn put_limit(text: &mut String, number: u64, limit: u64) -> Result<(), AllocError> {
+#[tactic(auto, unfolding(world_model::specs::Texts::limit_text))]
+pub(crate) fn put_limit(text: &mut String, number: u64, limit: u64) -> Result<(), AllocError>
+    ensures { OnOk result (string_bytes text.new ≡ string_bytes text.old ++ limit_text number limit) }
+{
     write!(text, "{number} limit {limit}\n")
 }
 
-pub(crate) fn put_admitted(text: &mut String, number: u64, node: u32) -> Result<(), AllocError> {
+#[tactic(auto, unfolding(world_model::specs::Texts::admitted_text))]
+pub(crate) fn put_admitted(text: &mut String, number: u64, node: u32) -> Result<(), AllocError>
+    ensures { OnOk result (string_bytes text.new ≡ string_bytes text.old ++ admitted_text number node) }
+{
     write!(text, "{number} submit {node} admitted\n")
 }
 
+#[tactic(auto, unfolding(world_model::specs::Texts::malformed_text))]
 pub(crate) fn put_malformed(
     text: &mut String,
     number: u64,
     node: u32,
     at: u64,
-) -> Result<(), AllocError> {
+) -> Result<(), AllocError>
+    ensures { OnOk result (string_bytes text.new ≡ string_bytes text.old ++ malformed_text number node at) }
+{
     write!(text, "{number} submit {node} malformed grammar {at}\n")
 }
 
-pub(crate) fn put_pending(text: &mut String, number: u64, node: u32) -> Result<(), AllocError> {
+#[tactic(auto, unfolding(world_model::specs::Texts::pending_text))]
+pub(crate) fn put_pending(text: &mut String, number: u64, node: u32) -> Result<(), AllocError>
+    ensures { OnOk result (string_bytes text.new ≡ string_bytes text.old ++ pending_text number node) }
+{
     write!(text, "{number} submit {node} known pending\n")
 }
 
+#[tactic(auto, unfolding(world_model::specs::Texts::block_front_text))]
 fn put_block_front(
     text: &mut String,
     number: u64,
     node: u32,
     block: &Block,
-) -> Result<(), AllocError> {
+) -> Result<(), AllocError>
+    ensures { OnOk result (string_bytes text.new ≡ string_bytes text.old ++ block_front_text number node block.now) }
+{
     let place = block.header.number;
     let config = block.meta.config;
     write!(text, "{number} block {node} {place} config {config}")
 }
 
-fn put_view(text: &mut String, view: u64) -> Result<(), AllocError> {
+#[tactic(auto, unfolding(world_model::specs::Texts::view_text))]
+fn put_view(text: &mut String, view: u64) -> Result<(), AllocError>
+    ensures { OnOk result (string_bytes text.new ≡ string_bytes text.old ++ view_text view) }
+{
     write!(text, " view {view}")
 }
 
-fn put_requests_count(text: &mut String, count: usize) -> Result<(), AllocError> {
+#[tactic(auto, unfolding(world_model::specs::Texts::requests_count_text))]
+fn put_requests_count(text: &mut String, count: usize) -> Result<(), AllocError>
+    ensures { OnOk result (string_bytes text.new ≡ string_bytes text.old ++ requests_count_text count) }
+{
     write!(text, " requests {count} first ")
 }
 
-fn put_id(text: &mut String, id: ReqId) -> Result<(), AllocError> {
+#[tactic(auto, unfolding(world_model::specs::Texts::id_text))]
+fn put_id(text: &mut String, id: ReqId) -> Result<(), AllocError>
+    ensures { OnOk result (string_bytes text.new ≡ string_bytes text.old ++ id_text id) }
+{
     let client = id.client;
     let serial = id.serial;
     write!(text, "{client}:{serial}")
@@ -78,7 +124,9 @@ fn put_signer(text: &mut String, signer: u32) -> Result<(), AllocError> {
     write!(text, "{signer}")
 }
 
-fn put_signers(text: &mut String, cert: &Cert) -> Result<(), AllocError> {
+fn put_signers(text: &mut String, cert: &Cert) -> Result<(), AllocError>
+    ensures { OnOk result (string_bytes text.new ≡ string_bytes text.old ++ signers_text (proof_of.Bft cert.now)) }
+{
     text.push_str(" signers ")?;
     if let [first, rest @ ..] = cert.sigs.as_slice() {
         put_signer(text, first.signer)?;
@@ -96,7 +144,9 @@ pub(crate) fn put_block(
     node: u32,
     block: &Block,
     cert: &Cert,
-) -> Result<(), AllocError> {
+) -> Result<(), AllocError>
+    ensures { OnOk result (string_bytes text.new ≡ string_bytes text.old ++ block_text number node block.now (proof_of.Bft cert.now)) }
+{
     put_block_front(text, number, node, block)?;
     put_view(text, cert.view)?;
     put_requests_count(text, block.requests.len())?;
@@ -107,6 +157,7 @@ pub(crate) fn put_block(
     text.push_str("\n")
 }
 
+#[tactic(auto, unfolding(world_model::specs::Texts::node_text))]
 pub(crate) fn put_node(
     text: &mut String,
     id: u32,
@@ -114,10 +165,15 @@ pub(crate) fn put_node(
     config: u64,
     view: u64,
     left: u64,
-) -> Result<(), AllocError> {
+) -> Result<(), AllocError>
+    ensures { OnOk result (string_bytes text.new ≡ string_bytes text.old ++ node_text id height config view left) }
+{
     write!(text, "node {id} height {height} config {config} view {view} left {left}\n")
 }
 
-pub(crate) fn put_sent(text: &mut String, count: usize) -> Result<(), AllocError> {
+#[tactic(auto, unfolding(world_model::specs::Texts::sent_text))]
+pub(crate) fn put_sent(text: &mut String, count: usize) -> Result<(), AllocError>
+    ensures { OnOk result (string_bytes text.new ≡ string_bytes text.old ++ sent_text count) }
+{
     write!(text, "sent {count}\n")
 }

@@ -1,5 +1,21 @@
 //! The world of a script: its nodes, the network, and what an event changes.
+ghost use Rattle.std.specs.Prelude.{◌≡◌, ◌==◌, ◌&&◌, ◌<◌, ◌≤◌, ◌-◌, ◌+◌, ◌++◌, ◌≢◌, ℕ, List as Items, true, IfNone, IfOk, IfSome, OnOk, Some, None, length, position, slice_get, slice_index_or, string_bytes, vec_len};
+ghost use Rattle.ord_types.specs.Genesis.{IsGenesisConfig};
+ghost use Rattle.script_play.specs.Turns.{IsLimit, Turned};
+ghost use Rattle.node_model.specs.Cores.{Core, core_ways};
+ghost use Rattle.node_model.specs.Steps.{FromMember};
+ghost use Rattle.std.specs.List.{flat_map};
+ghost use Rattle.world_model.specs.Cores.{core_setting};
+ghost use Rattle.world_model.specs.Texts.{closing_line, sent_text};
+ghost use Rattle.world_model.specs.Turns.{
+    deliver_turn, delivery, event_turn, first_config, first_world, flush_turn, ordinary, submit_turn, tick_at, ticks,
+    within_limit,
+};
+ghost use Rattle.world_model.specs.Worlds as worlds;
+ghost use Rattle.world_run.specs.Going.{have_come};
+
 use crate::network::Entry;
+use bft_wire::Message;
 use crate::node::{Node, Outside};
 use crate::texts::{
     put_admitted, put_deliver, put_flush, put_limit, put_malformed, put_node, put_pending, put_refused,
@@ -24,10 +40,14 @@ pub(crate) struct World {
     pub(crate) nodes: Vec<Node>,
     pub(crate) outside: Outside,
     /// The place of the first entry that may wait: those before it have come.
-    first_waiting: usize,
+    pub(crate) first_waiting: usize,
+    ghost passed: { have_come first_waiting outside.network.items ≡ true },
 }
 
-pub(crate) fn first_config(members: List<u32>) -> Config {
+/// The configuration of a genesis with batches of one request.
+pub(crate) fn first_config(members: List<u32>) -> Config
+    ensures { result ≡ first_config members }
+{
     Config {
         number: 0,
         kind: Kind::Bft,
@@ -44,7 +64,13 @@ pub(crate) fn first_config(members: List<u32>) -> Config {
 }
 
 impl World {
-    pub(crate) fn new(alloc: Global, members: List<u32>) -> Result<World, NoMemory> {
+    ghost use Rattle.world_run.specs.Mapped.{entry_of, node_of, world_of};
+
+    /// The world of a genesis.
+    pub(crate) fn new(alloc: Global, members: List<u32>) -> Result<World, NoMemory>
+        requires { IsGenesisConfig (first_config members) }
+        ensures { IfOk result (λ world. world_of world ≡ first_world core_setting (first_config members)) }
+    {
         let config = first_config(members);
         let mut nodes = Vec::new(alloc);
         for id in config.members.as_slice() {
@@ -64,12 +90,16 @@ impl World {
     }
 
     /// The place of a node among the nodes.
-    pub(crate) fn find(&self, id: u32) -> Option<usize> {
+    pub(crate) fn find(&self, id: u32) -> Option<usize>
+        ensures { result ≡ position (λ node. node.id == id) self.now.nodes.items }
+    {
         self.nodes.iter().position(|node| node.id == id)
     }
 
     /// Gives the box of seals to a signer.
-    fn give_seat(&mut self, id: u32) -> Result<(), NoMemory> {
+    fn give_seat(&mut self, id: u32) -> Result<(), NoMemory>
+        ensures { OnOk result (self.new ≡ record self.old { outside = record self.old.outside { seat = record { id = id; seals = self.old.outside.seat.seals } } }) }
+    {
         let empty = SealBox::new(self.outside.alloc)?.seat(id);
         let seat: SealSeat = mem::replace(&mut self.outside.seat, empty);
         self.outside.seat = seat.back().seat(id);
@@ -77,7 +107,11 @@ impl World {
     }
 
     /// Ends the run where more messages were sent than may be.
-    fn within_limit(&mut self) -> Result<Option<Ending>, NoMemory> {
+    fn within_limit(&mut self) -> Result<Option<Ending>, NoMemory>
+        ensures limit { IfOk result (λ ending. IfSome ending IsLimit) }
+        ensures turned { IfOk result (λ ending. (before blocks : Items ℕ) → string_bytes self.old.outside.text ≡ before ++ blocks → Turned (within_limit self.old.outside.number blocks (world_of self.old)) before (string_bytes self.new.outside.text) (world_of self.new) ending) }
+        ensures number { OnOk result (self.new.outside.number ≡ self.old.outside.number) }
+    {
         if self.outside.network.len() <= MOST_ENTRIES {
             return Ok(None);
         }
@@ -86,44 +120,88 @@ impl World {
         Ok(Some(Ending::Limit(limit)))
     }
 
-    /// One tick of the node at this place.
-    fn tick_at(&mut self, place: usize) -> Result<Option<Ending>, NoMemory> {
-        let id = self.nodes[place].id;
+    /// One tick of the node of this id, which stands at this place.
+    fn tick_at(&mut self, id: u32, place: usize) -> Result<Option<Ending>, NoMemory>
+        requires { position (λ node. node.id == id) self.old.nodes.items ≡ Some place }
+        ensures limit { IfOk result (λ ending. IfSome ending IsLimit) }
+        ensures turned { IfOk result (λ ending. Turned (tick_at core_setting self.old.outside.number (world_of self.old) (worlds.node_at id (world_of self.old).nodes)) (string_bytes self.old.outside.text) (string_bytes self.new.outside.text) (world_of self.new) ending) }
+        ensures number { OnOk result (self.new.outside.number ≡ self.old.outside.number) }
+    {
         self.give_seat(id)?;
         self.nodes[place].tick(&mut self.outside)?;
         self.within_limit()
     }
 
+    /// One tick of a node, if it is in the world.
+    fn tick_node(&mut self, id: u32) -> Result<Option<Ending>, NoMemory>
+        ensures limit { IfOk result (λ ending. IfSome ending IsLimit) }
+        ensures turned { IfOk result (λ ending. Turned (tick_at core_setting self.old.outside.number (world_of self.old) (worlds.node_at id (world_of self.old).nodes)) (string_bytes self.old.outside.text) (string_bytes self.new.outside.text) (world_of self.new) ending) }
+        ensures number { OnOk result (self.new.outside.number ≡ self.old.outside.number) }
+    {
+        match self.find(id) {
+            None => Ok(None),
+            Some(place) => self.tick_at(id, place),
+        }
+    }
+
     /// So many ticks of a node.
-    pub(crate) fn ticks(&mut self, id: u32, count: u32) -> Result<Option<Ending>, NoMemory> {
+    pub(crate) fn ticks(&mut self, id: u32, count: u32) -> Result<Option<Ending>, NoMemory>
+        ensures limit { IfOk result (λ ending. IfSome ending IsLimit) }
+        ensures turned { IfOk result (λ ending. Turned (ticks core_setting self.old.outside.number id count (world_of self.old)) (string_bytes self.old.outside.text) (string_bytes self.new.outside.text) (world_of self.new) ending) }
+        ensures number { OnOk result (self.new.outside.number ≡ self.old.outside.number) }
+    {
         for _tick in 0..count {
-            if let Some(place) = self.find(id) {
-                if let Some(ending) = self.tick_at(place)? {
-                    return Ok(Some(ending));
-                }
+            if let Some(ending) = self.tick_node(id)? {
+                return Ok(Some(ending));
             }
         }
         put_tick(&mut self.outside.text, self.outside.number, id)?;
         Ok(None)
     }
 
+    /// A message comes to the node of this id, which stands at this place.
+    fn take_at(
+        &mut self,
+        id: u32,
+        place: usize,
+        from: u32,
+        message: &Message,
+    ) -> Result<Option<Ending>, NoMemory>
+        requires { position (λ node. node.id == id) self.old.nodes.items ≡ Some place }
+        ensures limit { IfOk result (λ ending. IfSome ending IsLimit) }
+        ensures turned { IfOk result (λ ending. (node : worlds.Node Core) → worlds.node_at id (world_of self.old).nodes ≡ Some node → Turned (event_turn core_setting self.old.outside.number (world_of self.old) node (FromMember (record { from = from; message = message.now }))) (string_bytes self.old.outside.text) (string_bytes self.new.outside.text) (world_of self.new) ending) }
+        ensures number { OnOk result (self.new.outside.number ≡ self.old.outside.number) }
+    {
+        self.give_seat(id)?;
+        self.nodes[place].take(from, message, &mut self.outside)?;
+        self.within_limit()
+    }
+
     /// The entry at this place, counted from 0, comes to its receiver.
-    fn deliver_entry(&mut self, at: usize) -> Result<Option<Ending>, NoMemory> {
+    fn deliver_entry(&mut self, at: usize) -> Result<Option<Ending>, NoMemory>
+        requires { at < vec_len self.old.outside.network }
+        ensures limit { IfOk result (λ ending. IfSome ending IsLimit) }
+        ensures turned { IfOk result (λ ending. (entry : worlds.Entry) → slice_get (world_of self.old).network at ≡ Some entry → Turned (delivery core_setting self.old.outside.number at entry (world_of self.old)) (string_bytes self.old.outside.text) (string_bytes self.new.outside.text) (world_of self.new) ending) }
+        ensures number { OnOk result (self.new.outside.number ≡ self.old.outside.number) }
+        ensures others { OnOk result ((d : worlds.Entry) (k : ℕ) → k < vec_len self.old.outside.network → k ≢ at → slice_index_or (world_of self.new).network k d ≡ slice_index_or (world_of self.old).network k d) }
+        ensures longer { OnOk result (vec_len self.old.outside.network ≤ vec_len self.new.outside.network) }
+    {
         let entry = &mut self.outside.network[at];
         entry.came = true;
         let from = entry.from;
         let to = entry.to;
         let message = entry.message.clone()?;
-        let Some(place) = self.find(to) else {
-            return Ok(None);
-        };
-        self.give_seat(to)?;
-        self.nodes[place].take(from, message.as_ref(), &mut self.outside)?;
-        self.within_limit()
+        match self.find(to) {
+            None => Ok(None),
+            Some(place) => self.take_at(to, place, from, message.as_ref()),
+        }
     }
 
     /// The place of the entry with this number.
-    fn place_of_entry(&self, number: u64) -> Option<usize> {
+    fn place_of_entry(&self, number: u64) -> Option<usize>
+        ensures none { IfNone result (worlds.entry number (world_of self.now) ≡ None) }
+        ensures some { IfSome result (λ at. (at < vec_len self.now.outside.network) × (number ≡ at + 1)) }
+    {
         let at = number.checked_sub(1)?;
         if at < self.outside.network.len() as u64 {
             Some(at as usize)
@@ -150,7 +228,11 @@ impl World {
     }
 
     /// Delivers these entries, in this order.
-    pub(crate) fn deliver(&mut self, ranges: &[Range]) -> Result<Option<Ending>, NoMemory> {
+    pub(crate) fn deliver(&mut self, ranges: &[Range]) -> Result<Option<Ending>, NoMemory>
+        ensures limit { IfOk result (λ ending. IfSome ending IsLimit) }
+        ensures turned { IfOk result (λ ending. Turned (deliver_turn core_setting self.old.outside.number ranges.now 0 (world_of self.old)) (string_bytes self.old.outside.text) (string_bytes self.new.outside.text) (world_of self.new) ending) }
+        ensures number { OnOk result (self.new.outside.number ≡ self.old.outside.number) }
+    {
         let mut count = 0;
         for range in ranges {
             match self.deliver_range(*range, count)? {
@@ -164,7 +246,10 @@ impl World {
     }
 
     /// Passes over the entries that have come.
-    fn pass_over(&mut self) {
+    fn pass_over(&mut self)
+        ensures world { world_of self.new ≡ world_of self.old }
+        ensures outside { self.new.outside ≡ self.old.outside }
+    {
         while self.first_waiting < self.outside.network.len()
             && self.outside.network[self.first_waiting].came
         {
@@ -173,7 +258,11 @@ impl World {
     }
 
     /// Delivers the entries that wait, between these ids alone where there are some.
-    pub(crate) fn flush(&mut self, only: &Option<List<u32>>) -> Result<Option<Ending>, NoMemory> {
+    pub(crate) fn flush(&mut self, only: &Option<List<u32>>) -> Result<Option<Ending>, NoMemory>
+        ensures limit { IfOk result (λ ending. IfSome ending IsLimit) }
+        ensures turned { IfOk result (λ ending. Turned (flush_turn core_setting self.old.outside.number only.now 10000 0 (world_of self.old)) (string_bytes self.old.outside.text) (string_bytes self.new.outside.text) (world_of self.new) ending) }
+        ensures number { OnOk result (self.new.outside.number ≡ self.old.outside.number) }
+    {
         self.pass_over();
         let mut at = self.first_waiting;
         let mut count = 0;
@@ -193,26 +282,32 @@ impl World {
     /// Submits an ordinary request to a node's pool.
     pub(crate) fn submit(
         &mut self,
+        to: u32,
         place: usize,
         id: ReqId,
         payload: Bytes,
-    ) -> Result<(), NoMemory> {
+    ) -> Result<(), NoMemory>
+        requires { position (λ node. node.id == to) self.old.nodes.items ≡ Some place }
+        ensures turned { OnOk result ((node : worlds.Node Core) → worlds.node_at to (world_of self.old).nodes ≡ Some node → Turned (submit_turn self.old.outside.number (world_of self.old) node (ordinary id.client id.serial payload)) (string_bytes self.old.outside.text) (string_bytes self.new.outside.text) (world_of self.new) None) }
+        ensures number { OnOk result (self.new.outside.number ≡ self.old.outside.number) }
+    {
         let kind = ReqKind::Ordinary;
         let node = &mut self.nodes[place];
         let answer = submit(&mut node.pool, Request { kind, id, payload })?;
-        let id = node.id;
         let number = self.outside.number;
         let text = &mut self.outside.text;
         match answer {
-            Answer::Admitted => put_admitted(text, number, id)?,
-            Answer::Malformed(at) => put_malformed(text, number, id, at)?,
-            Answer::KnownPending => put_pending(text, number, id)?,
+            Answer::Admitted => put_admitted(text, number, to)?,
+            Answer::Malformed(at) => put_malformed(text, number, to, at)?,
+            Answer::KnownPending => put_pending(text, number, to)?,
         }
         Ok(())
     }
 
     /// The closing lines.
-    pub(crate) fn closing(&self, text: &mut String) -> Result<(), NoMemory> {
+    pub(crate) fn closing(&self, text: &mut String) -> Result<(), NoMemory>
+        ensures { OnOk result (string_bytes text.new ≡ string_bytes text.old ++ (flat_map (closing_line core_ways) (world_of self.now).nodes ++ sent_text (length (world_of self.now).network))) }
+    {
         for node in self.nodes.as_slice() {
             let config = node.place.config.number;
             put_node(text, node.id, node.place.height, config, node.view.view(), node.view.left())?;
@@ -230,7 +325,9 @@ enum Delivered {
     Ended(Ending),
 }
 
-fn is_named(only: &Option<List<u32>>, entry: &Entry) -> bool {
+fn is_named(only: &Option<List<u32>>, entry: &Entry) -> bool
+    ensures { result ≡ worlds.is_named only.now (entry_of entry.now) }
+{
     match only {
         None => true,
         Some(ids) => {
@@ -241,6 +338,8 @@ fn is_named(only: &Option<List<u32>>, entry: &Entry) -> bool {
 }
 
 /// Whether an entry waits for its receiver.
-fn is_waiting(only: &Option<List<u32>>, entry: &Entry) -> bool {
+fn is_waiting(only: &Option<List<u32>>, entry: &Entry) -> bool
+    ensures { result ≡ worlds.is_waiting only.now (entry_of entry.now) }
+{
     !entry.came && is_named(only, entry)
 }

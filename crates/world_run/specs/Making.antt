@@ -1,0 +1,72 @@
+-- What a step has made so far, in the code and by its definition.
+use Rattle.std.specs.Prelude.{◌≡◌, ℕ, List, ◌++◌, map, Option, Some, None, string_bytes}
+use Rattle.std.specs.List.{flat_map}
+use Rattle.safety_model.specs.Blocks.{Request}
+use Rattle.signer_edge.specs.declared.seals.Seal.{Seal}
+use Rattle.signer_edge.specs.Seals.{is_sealed}
+use Rattle.signer_edge.specs.Accepts.{Accepts}
+use Rattle.node_model.specs.declared.act.Act.{Act}
+use Rattle.node_model.specs.declared.act.Act.TheVariants as act_of
+use Rattle.node_model.specs.Acts.{due, deliver_act, delivery_due}
+use Rattle.node_model.specs.Answers.{after_act}
+use Rattle.node_model.specs.Cores.{Core}
+use Rattle.node_model.specs.Steps.{Keys, Making}
+use Rattle.world_model.specs.Pools.{settled}
+use Rattle.world_model.specs.Texts.{fact_text}
+use Rattle.world_model.specs.Worlds.{Entry, keys_of, requests_in, seals_of, sent_by}
+use Rattle.world_run.specs.Mapped.{entry_of}
+use Rattle.world_run.specs.declared.node.Node.{Node}
+use Rattle.world_run.specs.declared.node.Outside.{Outside}
+
+-- what stood before a step of a node
+pub record Before : Type 0 where
+  pub id : ℕ
+  pub number : ℕ
+  pub pool : List Request
+  pub network : List Entry
+  pub seals : List Seal
+  pub text : List ℕ
+
+abbrev pub keys_before : Before → Keys
+keys_before b = keys_of b.seals b.id
+
+-- what the keys accept after these statements were signed
+abbrev pub accepts_in : Before → Making Core → Accepts
+accepts_in b m = is_sealed (b.seals ++ seals_of b.id m.signed)
+
+-- the node and what is outside it stand as the step has made them, and the view has taken the act that it told
+pub record Makes (b : Before) (m : Making Core) (told : Act) (node : Node) (outside : Outside) : Type 0 where
+  pub id : node.id ≡ b.id
+  pub place : node.place ≡ m.state.place
+  pub view : node.view ≡ after_act told m.state.view
+  pub me : m.state.view.me ≡ b.id
+  pub pool : node.pool.items ≡ settled (flat_map requests_in m.facts) b.pool
+  pub network : map entry_of outside.network.items ≡ b.network ++ sent_by b.id m.posts
+  pub seat : outside.seat ≡ record { id = b.id; seals = b.seals ++ seals_of b.id m.signed }
+  pub number : outside.number ≡ b.number
+  pub text : string_bytes outside.text ≡ b.text ++ flat_map (fact_text b.number) m.facts
+
+-- this is what stands before a step
+pub record Stands (b : Before) (node : Node) (outside : Outside) : Type 0 where
+  pub id : node.id ≡ b.id
+  pub pool : node.pool.items ≡ b.pool
+  pub network : map entry_of outside.network.items ≡ b.network
+  pub seat : outside.seat ≡ record { id = b.id; seals = b.seals }
+  pub number : outside.number ≡ b.number
+  pub text : string_bytes outside.text ≡ b.text
+
+-- the act that is done for an answer, if it is one
+abbrev pub act_in : Act → Option Act
+act_in (act_of.Accept b) = Some (act_of.Accept b)
+act_in (act_of.Prepare d) = Some (act_of.Prepare d)
+act_in (act_of.Deliver b cert) = Some (act_of.Deliver b cert)
+act_in act_of.Kept = None
+act_in (act_of.Nothing r) = None
+
+-- the told act is the one that is due
+abbrev pub IsDue : Before → Making Core → Act → Type 0
+IsDue b m told = act_in told ≡ due (accepts_in b m) m.state.place m.state.view
+
+-- no vote is due, so the told act is the delivery that is due, if one is
+abbrev pub IsDelivery : Making Core → Act → Type 0
+IsDelivery m told = act_in told ≡ deliver_act (delivery_due m.state.place m.state.view)
