@@ -6,10 +6,9 @@ mod offline;
 
 use adapters::{NoSource, Reading, Writing};
 use offline::run_offline;
-use std::env;
 use std::fs::File;
-use std::io;
 use std::process::ExitCode;
+use std::{env, io};
 
 fn main(rt: HostRuntime) -> io::Result<ExitCode> {
     let mut words = Vec::new(rt.alloc());
@@ -19,7 +18,12 @@ fn main(rt: HostRuntime) -> io::Result<ExitCode> {
     let mut out = Writing::new(rt.stdout());
     let status = match words.get(1) {
         Some(path) => match File::open(&rt, path.as_str()) {
-            Ok(file) => run_offline(rt.alloc(), words.as_slice(), &mut Reading::new(file), &mut out),
+            Ok(file) => run_offline(
+                rt.alloc(),
+                words.as_slice(),
+                &mut Reading::new(file),
+                &mut out,
+            ),
             Err(_) => run_offline(rt.alloc(), words.as_slice(), &mut NoSource::new(), &mut out),
         },
         None => run_offline(rt.alloc(), words.as_slice(), &mut NoSource::new(), &mut out),

@@ -14,7 +14,7 @@ use Rattle.node_model.specs.Steps.{Keys, Making}
 use Rattle.world_model.specs.Pools.{settled}
 use Rattle.world_model.specs.Texts.{fact_text}
 use Rattle.world_model.specs.Worlds.{Entry, keys_of, requests_in, seals_of, sent_by}
-use Rattle.world_run.specs.Mapped.{entry_of}
+use Rattle.world_run.specs.Entries.{entry_of}
 use Rattle.world_run.specs.declared.node.Node.{Node}
 use Rattle.world_run.specs.declared.node.Outside.{Outside}
 

@@ -2,7 +2,7 @@
 ghost use Rattle.std.specs.Prelude.{◌≡◌, ◌++◌, OnOk, map};
 ghost use Rattle.node_model.specs.Steps.{to_all};
 ghost use Rattle.world_model.specs.Worlds.{sent_by};
-ghost use Rattle.world_run.specs.Mapped.{entry_of};
+ghost use Rattle.world_run.specs.Entries.{entry_of};
 
 use bft_wire::Message;
 use ord_types::NoMemory;

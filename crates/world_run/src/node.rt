@@ -10,13 +10,24 @@ ghost use Rattle.node_model.specs.Acts.{View, carried_cert, due, may_propose, pr
 ghost use Rattle.node_model.specs.Answers.{after_act};
 ghost use Rattle.node_model.specs.Cores.{Core, core_opens, core_ways, first_place, next_place};
 ghost use Rattle.node_model.specs.Steps.{
-    FromMember, Making, Tick, begins, commit_message, makes_accepted, makes_delivered, makes_prepared, next, own_rule,
-    prepare_message, preprepare_message, rounds, to_all, votes,
+  FromMember,
+  Making,
+  Tick,
+  begins,
+  commit_message,
+  makes_accepted,
+  makes_delivered,
+  makes_prepared,
+  next,
+  own_rule,
+  prepare_message,
+  preprepare_message,
+  rounds,
+  to_all,
+  votes,
 };
 ghost use Rattle.view_core.specs.Places.{IsPlace};
 ghost use Rattle.world_model.specs.Worlds.{requests_in, sent_by, tick_of};
-ghost use Rattle.world_run.specs.Making.{Before, IsDelivery, IsDue, Makes, Stands, keys_before};
-ghost use Rattle.world_run.specs.Mapped.{core_of, entry_of, node_of};
 ghost use Rattle.world_run.specs.Standing.{IsAt};
 
 use crate::network::{Entry, send_to_all};
@@ -99,6 +110,10 @@ fn signed(seat: &mut SealSeat, statement: &[u8]) -> Result<Sig, NoMemory>
 }
 
 impl Node {
+    ghost use Rattle.world_run.specs.Entries.{entry_of};
+    ghost use Rattle.world_run.specs.Making.{Before, IsDelivery, IsDue, Makes, Stands, keys_before};
+    ghost use Rattle.world_run.specs.Nodes.{core_of, node_of};
+
     /// A node on the first block of a configuration.
     pub(crate) fn new(alloc: Global, config: &Config, id: u32) -> Result<Node, NoMemory>
         requires { IsGenesisConfig config.now }
@@ -124,7 +139,13 @@ impl Node {
         ensures text { outside.new.text ≡ outside.old.text }
     {
         let members = self.place.config.members.as_slice();
-        send_to_all(outside.alloc, members, self.id, message, &mut outside.network)
+        send_to_all(
+            outside.alloc,
+            members,
+            self.id,
+            message,
+            &mut outside.network,
+        )
     }
 
     /// What follows an acceptance.

@@ -1,5 +1,13 @@
 //! Runs the commands of a script on a world.
-ghost use Rattle.std.specs.Prelude.{◌≡◌};
+ghost use Rattle.std.specs.Prelude.{◌≡◌, IfOk, IfSome, None, Option, string_bytes};
+ghost use Rattle.std.specs.Option.{option_map};
+ghost use Rattle.ord_types.specs.Genesis.{IsGenesisConfig};
+ghost use Rattle.script_play.specs.Turns.{IsLimit, Turned};
+ghost use Rattle.node_model.specs.Cores.{Core};
+ghost use Rattle.world_model.specs.Cores.{core_setting};
+ghost use Rattle.world_model.specs.Turns.{closing_of, turn_in, turn_of};
+ghost use Rattle.world_model.specs.Worlds as worlds;
+ghost use Rattle.world_run.specs.Mapped.{world_of};
 
 use crate::texts::{put_genesis, put_refused, put_sent};
 use crate::world::World;
@@ -17,7 +25,10 @@ pub struct Runner {
 }
 
 impl Runner {
-    pub fn new(alloc: Global) -> Runner {
+    /// A runner before the first genesis.
+    pub fn new(alloc: Global) -> Runner
+        ensures { ⟦<Runner as Machine>⟧.world result ≡ None }
+    {
         Runner { alloc, world: None }
     }
 
@@ -47,14 +58,22 @@ fn submit(
 ) -> Result<Option<Ending>, NoMemory> {
     match world.find(node) {
         Some(place) => world.submit(node, place, id, payload)?,
-        None => put_refused(&mut world.outside.text, world.outside.number, "unknown node")?,
+        None => put_refused(
+            &mut world.outside.text,
+            world.outside.number,
+            "unknown node",
+        )?,
     }
     Ok(None)
 }
 
 fn tick(world: &mut World, node: u32, count: u32) -> Result<Option<Ending>, NoMemory> {
     if world.find(node).is_none() {
-        put_refused(&mut world.outside.text, world.outside.number, "unknown node")?;
+        put_refused(
+            &mut world.outside.text,
+            world.outside.number,
+            "unknown node",
+        )?;
         return Ok(None);
     }
     world.ticks(node, count)
@@ -64,7 +83,11 @@ fn tick(world: &mut World, node: u32, count: u32) -> Result<Option<Ending>, NoMe
 fn turn_in(world: &mut World, command: Command) -> Result<Option<Ending>, NoMemory> {
     match command {
         Command::Genesis { members: _members } => {
-            put_refused(&mut world.outside.text, world.outside.number, "second genesis")?;
+            put_refused(
+                &mut world.outside.text,
+                world.outside.number,
+                "second genesis",
+            )?;
             Ok(None)
         }
         Command::Submit {
@@ -80,13 +103,13 @@ fn turn_in(world: &mut World, command: Command) -> Result<Option<Ending>, NoMemo
 }
 
 impl Machine for Runner {
-    ghost World = { Unit {0} };
+    ghost World = { Option (worlds.World Core (Unit {0})) };
 
-    ghost world = { λ _. tt };
+    ghost world = { λ runner. option_map world_of runner.world };
 
-    ghost turn_of = { λ _ _ _. record { printed = []; next = Ok tt } };
+    ghost turn_of = { turn_of core_setting };
 
-    ghost closing_of = { λ _. [] };
+    ghost closing_of = { closing_of core_setting };
 
     fn turn(
         &mut self,

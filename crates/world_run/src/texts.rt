@@ -3,9 +3,23 @@ ghost use Rattle.std.specs.Prelude.{◌≡◌, ◌++◌, OnOk, string_bytes, len
 ghost use Rattle.ord_types.specs.declared.values.Proof.TheVariants as proof_of;
 ghost use Rattle.safety_model.specs.Facts.{signers_of};
 ghost use Rattle.world_model.specs.Texts.{
-    admitted_text, block_front_text, block_text, deliver_text, flush_text, genesis_text, id_text, limit_text,
-    malformed_text, node_text, pending_text, refused_text, requests_count_text, sent_text, signers_text, tick_text,
-    view_text,
+  admitted_text,
+  block_front_text,
+  block_text,
+  deliver_text,
+  flush_text,
+  genesis_text,
+  id_text,
+  limit_text,
+  malformed_text,
+  node_text,
+  pending_text,
+  refused_text,
+  requests_count_text,
+  sent_text,
+  signers_text,
+  tick_text,
+  view_text,
 };
 
 use ord_types::{Block, Cert, ReqId};
@@ -168,7 +182,10 @@ pub(crate) fn put_node(
 ) -> Result<(), AllocError>
     ensures { OnOk result (string_bytes text.new ≡ string_bytes text.old ++ node_text id height config view left) }
 {
-    write!(text, "node {id} height {height} config {config} view {view} left {left}\n")
+    write!(
+        text,
+        "node {id} height {height} config {config} view {view} left {left}\n"
+    )
 }
 
 #[tactic(auto, unfolding(world_model::specs::Texts::sent_text))]

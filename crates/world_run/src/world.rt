@@ -8,20 +8,30 @@ ghost use Rattle.std.specs.List.{flat_map};
 ghost use Rattle.world_model.specs.Cores.{core_setting};
 ghost use Rattle.world_model.specs.Texts.{closing_line, sent_text};
 ghost use Rattle.world_model.specs.Turns.{
-    deliver_turn, delivery, event_turn, first_config, first_world, flush_turn, ordinary, submit_turn, tick_at, ticks,
-    within_limit,
+  deliver_turn,
+  delivery,
+  event_turn,
+  first_config,
+  first_world,
+  flush_turn,
+  ordinary,
+  submit_turn,
+  tick_at,
+  ticks,
+  within_limit,
 };
 ghost use Rattle.world_model.specs.Worlds as worlds;
+ghost use Rattle.world_run.specs.Entries.{entry_of};
 ghost use Rattle.world_run.specs.Going.{have_come};
 
 use crate::network::Entry;
-use bft_wire::Message;
 use crate::node::{Node, Outside};
-use crate::texts::{
-    put_admitted, put_deliver, put_flush, put_limit, put_malformed, put_node, put_pending, put_refused,
-    put_sent, put_tick,
-};
 use crate::pool::{Answer, submit};
+use crate::texts::{
+    put_admitted, put_deliver, put_flush, put_limit, put_malformed, put_node, put_pending,
+    put_refused, put_sent, put_tick,
+};
+use bft_wire::Message;
 use ord_types::{Batch, Bytes, Config, Kind, List, Mode, NoMemory, ReqId, ReqKind, Request};
 use script::Range;
 use script_play::Ending;
@@ -64,7 +74,7 @@ pub(crate) fn first_config(members: List<u32>) -> Config
 }
 
 impl World {
-    ghost use Rattle.world_run.specs.Mapped.{entry_of, node_of, world_of};
+    ghost use Rattle.world_run.specs.Mapped.{world_of};
 
     /// The world of a genesis.
     pub(crate) fn new(alloc: Global, members: List<u32>) -> Result<World, NoMemory>
@@ -310,7 +320,14 @@ impl World {
     {
         for node in self.nodes.as_slice() {
             let config = node.place.config.number;
-            put_node(text, node.id, node.place.height, config, node.view.view(), node.view.left())?;
+            put_node(
+                text,
+                node.id,
+                node.place.height,
+                config,
+                node.view.view(),
+                node.view.left(),
+            )?;
         }
         put_sent(text, self.outside.network.len())?;
         Ok(())
