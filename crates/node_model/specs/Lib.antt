@@ -2,6 +2,8 @@ pub mod Acts
 pub mod Answers
 pub mod Checks
 pub mod Cores
+pub mod Keeping
 pub mod Leading
 pub mod Letters
+pub mod Past
 pub mod Steps

@@ -1,4 +1,5 @@
 pub mod Cores
+pub mod Histories
 pub mod Pools
 pub mod Texts
 pub mod Turns
