@@ -1,5 +1,5 @@
 -- What the grammar lets into a command.
-use Rattle.std.proofs.Common.{slice_index, codes, add-one, ◌≡◌, ℕ, zero, suc, ◌+◌, ◌-◌, ◌*◌, ◌^◌, ◌<◌, ◌≤◌, List, [], ◌∷◌, length, cond, Bool, true, false, refl, sym, ap, ◌∙◌, arith, Option, Some, None, Result, Ok, Err, ◌&&◌, option_map, option_and_then, nat_lt, nat_le, ◌==◌, IfOk, IfSome, All}
+use Rattle.std.proofs.Common.{slice_index, codes, ◌≡◌, ℕ, zero, suc, ◌+◌, ◌-◌, ◌*◌, ◌^◌, ◌<◌, ◌≤◌, List, [], ◌∷◌, length, cond, Bool, true, false, refl, ap, arith, Option, Some, None, Result, Ok, Err, ◌&&◌, option_map, option_and_then, nat_lt, nat_le, ◌==◌, IfOk, IfSome, All}
 use Rattle.std.proofs.lemmas.Option.{option_and_then_some}
 use Rattle.std.proofs.lemmas.Result.{IfOk-at_ok}
 use Rattle.std.proofs.lemmas.Bool.{ltb-true, leb-true, eqb-false}
@@ -9,16 +9,15 @@ use Rattle.std.specs.List.{slice_split}
 use Rattle.std.specs.Str.{bytes_eq}
 use Rattle.std.specs.List.Sorted.{IsStrictlyIncreasing}
 use Rattle.script.specs.declared.command.Command.{Command}
-use Rattle.script.specs.declared.command.Command.TheVariants.{Genesis, Submit, Tick, Deliver, Flush}
 use Rattle.script.specs.declared.command.Range.{Range}
 use Rattle.script.specs.declared.command.Stop.{Stop}
 use Rattle.script.specs.declared.command.Stop.TheVariants.{Malformed, NotBuilt}
 use Rattle.script.specs.declared.command.Meaning.{Meaning}
-use Rattle.script.specs.declared.command.Meaning.TheVariants.{Nothing, Means, Wrong}
+use Rattle.script.specs.declared.command.Meaning.TheVariants.{Nothing, Means}
 use Rattle.script.specs.Words.{Word, words}
 use Rattle.script.specs.Fields.{digits_from, is_digit, number_of, not_zero, id_of, ticks_of, hex_of, ids_from, ids_of, given_ids_of, entry_of, in_order, range_of_parts, range_of, ranges_from, ranges_of}
 use Rattle.script.specs.Reading.{◌>>=◌, field, field_or, fitted, no_more}
-use Rattle.script.specs.Commands.{IsId, AreIds, IsSubmit, IsTick, IsRange, AreRanges, IsWellFormed}
+use Rattle.script.specs.Commands.{IsId, AreIds, IsRange, AreRanges, IsWellFormed}
 use Rattle.script.specs.Grammar.{genesis_line, submit_line, tick_line, deliver_line, flush_line, line_of, command_of, judged, meaning, same_as}
 use Rattle.script.specs.Later.{is_later}
 

@@ -1,5 +1,5 @@
 -- The lines of later parts.
-use Rattle.std.specs.Prelude.{ℕ, ◌+◌, ◌||◌, ◌&&◌, not, Bool, true, false, List, [], ◌∷◌, length, nat_eq, nat_lt, codes}
+use Rattle.std.specs.Prelude.{ℕ, ◌||◌, ◌&&◌, not, Bool, true, List, [], ◌∷◌, length, nat_eq, nat_lt, codes}
 use Rattle.std.specs.List.{list_any, starts_with}
 use Rattle.std.specs.Str.{bytes_eq}
 use Rattle.script.specs.Words.{Word}

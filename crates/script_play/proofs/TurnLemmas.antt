@@ -5,7 +5,7 @@ use Rattle.std.proofs.lemmas.Bool.{le-ltb}
 use Rattle.script.specs.declared.command.Command.{Command}
 use Rattle.script.specs.Grammar.{meaning}
 use Rattle.script_play.specs.Turns.{Turn, Turned}
-use Rattle.script_play.specs.Runs.{line_turn, limit_turn, said, max_lines, max_line, LineIs, run, Run, Leaves, text_left, went}
+use Rattle.script_play.specs.Runs.{line_turn, limit_turn, said, max_lines, max_line, LineIs, run, Run, Leaves}
 use Rattle.script_play.specs.declared.ending.Ending.{Ending}
 use Rattle.script_play.specs.declared.ending.Ending.TheVariants.{Done}
 use Rattle.line_flow.specs.Lines.{first_length, lines}

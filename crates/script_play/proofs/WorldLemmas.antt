@@ -1,5 +1,5 @@
 -- What holds in every world of a script.
-use Rattle.std.proofs.Common.{◌≡◌, ℕ, ◌+◌, List, [], ◌∷◌, cond, Bool, true, false, refl, sym, subst, Result, Ok, Err, nat_lt, length}
+use Rattle.std.proofs.Common.{◌≡◌, ℕ, ◌+◌, List, [], ◌∷◌, cond, Bool, true, false, refl, subst, Result, Ok, Err, nat_lt, length}
 use Rattle.std.specs.List.{AllByRecursion}
 use Rattle.script.specs.declared.command.Command.{Command}
 use Rattle.script.specs.declared.command.Stop.TheVariants.{Malformed, NotBuilt}

@@ -1,6 +1,4 @@
-use Rattle.std.proofs.Common.{◌≡◌, ◌≢◌, ℕ, ◌+◌, ◌-◌, ◌<◌, ◌≤◌, List, [], ◌∷◌, ◌++◌, length, get_or, take, drop, arith, slice_range, refl, eq-eqb}
-use Rattle.line_flow.specs.Reader.{unread}
-use Rattle.line_flow.specs.Lines.{IsUnbroken}
+use Rattle.std.proofs.Common.{arith, slice_range, refl, eq-eqb}
 use Rattle.line_flow.proofs.LineLemmas.{part_cut, IsUnbroken-append, IsUnbroken-take, IsUnbroken-whole, lines_long, cut_long}
 use Rattle.std.proofs.lemmas.Bool.{eqb-true}
 use Rattle.std.proofs.lemmas.List.{append_assoc}

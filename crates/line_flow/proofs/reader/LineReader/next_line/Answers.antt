@@ -1,4 +1,4 @@
-use Rattle.std.proofs.Common.{arith, refl, ap, Ok, ◌≡◌, ◌∙◌}
+use Rattle.std.proofs.Common.{ap, Ok, ◌≡◌, ◌∙◌}
 use Rattle.line_flow.specs.declared.reader.NextLine.TheVariants.{Line}
 use Rattle.line_flow.specs.declared.reader.Piece.{Piece}
 use Rattle.line_flow.proofs.LineLemmas.{lines_cut, lines_end}

@@ -1,4 +1,4 @@
-use Rattle.std.proofs.Common.{rules, arith, refl, List, ℕ, Option, ◌∙◌, []}
+use Rattle.std.proofs.Common.{rules, arith, refl, List, ℕ, Option, []}
 use Rattle.std.specs.Prelude.{string_bytes}
 use Rattle.std.proofs.lemmas.Result.{IfOk-weaker}
 use Rattle.script_play.specs.Turns.{Turned}

@@ -1,11 +1,9 @@
-use Rattle.std.proofs.Common.{rules, ◌≡◌, ◌+◌, ◌∙◌, refl, ap, Ok, ℕ, List, length, true, false, [], IsSome, Option}
+use Rattle.std.proofs.Common.{rules, ◌∙◌, refl, ap, Ok, ℕ, List, true, false, [], Option}
 use Rattle.std.specs.Prelude.{string_bytes}
 use Rattle.std.proofs.lemmas.Result.{IfOk-at_ok}
-use Rattle.line_flow.specs.Lines.{lines}
-use Rattle.line_flow.specs.Reader.{ahead}
 use Rattle.line_flow.specs.declared.reader.NextLine.{NextLine}
 use Rattle.script_play.specs.Turns.{Turned}
-use Rattle.script_play.specs.Runs.{run, line_turn, Leaves, LineIs}
+use Rattle.script_play.specs.Runs.{line_turn, LineIs}
 use Rattle.script_play.specs.declared.ending.Ending.{Ending}
 use Rattle.script_play.proofs.TurnLemmas.{leaves_end, leaves_line, leaves_long, IfOk-from_is, lines_none}
 use Rattle.script_play.proofs.player.Player.turn.Goals as goal
