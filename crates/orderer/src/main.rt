@@ -2,6 +2,7 @@
 #![tactic(auto)]
 
 mod adapters;
+mod commands;
 mod offline;
 
 use adapters::{NoSource, Reading, Writing};

@@ -12,11 +12,6 @@ is_later_word text =
     || bytes_eq text (codes "stop") || bytes_eq text (codes "stop-at") || bytes_eq text (codes "start") || bytes_eq text (codes "config")
     || bytes_eq text (codes "join")
 
--- lines whose grammar is built and whose effect is not: `deliver`, `tick` with a count, `flush` with ids
-unfoldable pub is_later_form : List ℕ → List Word → Bool
-is_later_form first more =
-    bytes_eq first (codes "deliver") || (bytes_eq first (codes "tick") && nat_lt 1 (length more)) || (bytes_eq first (codes "flush") && nat_lt 0 (length more))
-
 -- a word begins like an option of `genesis` of a later part
 unfoldable pub is_later_option : List ℕ → Bool
 is_later_option text =
@@ -31,4 +26,4 @@ is_later_genesis (kind ∷ more) =
 
 -- a line of a later part, by its first word and those behind it
 abbrev pub is_later : List ℕ → List Word → Bool
-is_later first more = is_later_word first || is_later_form first more || (bytes_eq first (codes "genesis") && is_later_genesis more)
+is_later first more = is_later_word first || (bytes_eq first (codes "genesis") && is_later_genesis more)

@@ -2,7 +2,7 @@ ghost use Rattle.std.specs.Prelude.{◌≡◌, not};
 ghost use Rattle.std.specs.List.{list_any};
 ghost use Rattle.std.specs.Str.{bytes_eq};
 ghost use Rattle.script.specs.Words.{words_left};
-ghost use Rattle.script.specs.Later.{is_later_word, is_later_form, is_later_option, is_later_genesis, is_later};
+ghost use Rattle.script.specs.Later.{is_later_word, is_later_option, is_later_genesis, is_later};
 
 use crate::words::Words;
 
@@ -24,16 +24,6 @@ fn is_later_word(word: &[u8]) -> bool
         || word == b"start".as_slice()
         || word == b"config".as_slice()
         || word == b"join".as_slice()
-}
-
-/// Whether a line of the grammar belongs to a later part in this form.
-#[tactic(auto, unfolding(crate::specs::Later::is_later_form))]
-fn is_later_form(word: &[u8], words: &Words<'_>) -> bool
-    ensures { result ≡ is_later_form word.now (words_left words.now.line.now words.now.from) }
-{
-    word == b"deliver".as_slice()
-        || word == b"tick".as_slice() && words.has_more_than_one()
-        || word == b"flush".as_slice() && words.has_some()
 }
 
 /// Whether a word begins like an option of a later part.
@@ -88,7 +78,5 @@ fn is_later_genesis(words: &Words<'_>) -> bool
 pub fn is_later(word: &[u8], words: &Words<'_>) -> bool
     ensures { result ≡ is_later word.now (words_left words.now.line.now words.now.from) }
 {
-    is_later_word(word)
-        || is_later_form(word, words)
-        || word == b"genesis".as_slice() && is_later_genesis(words)
+    is_later_word(word) || word == b"genesis".as_slice() && is_later_genesis(words)
 }

@@ -188,6 +188,13 @@ mod tests {
             (b"tick 01", 6),
             (b"tick 4294967296", 6),
             (b"flush\r", 1),
+            (b"flush ", 7),
+            (b"flush 2,1", 7),
+            (b"tick 1 0", 8),
+            (b"tick 1 10001", 8),
+            (b"tick 1 1 1", 10),
+            (b"deliver", 8),
+            (b"deliver 3-1", 9),
             (b"submit 1 2 3", 13),
             (b"submit 1 2 3 ", 14),
             (b"submit 1 2 3 AA", 14),
@@ -214,10 +221,6 @@ mod tests {
         for line in [
             b"raw".as_slice(),
             b"stop-at 0 x",
-            b"deliver",
-            b"tick 1 1",
-            b"tick x ",
-            b"flush ",
             b"genesis",
             b"genesis bft 1",
             b"genesis raft 1 batch=1",
@@ -230,7 +233,7 @@ mod tests {
     }
 
     #[test]
-    fn forms_of_later_parts(rt: HostRuntime) -> Result<(), Fail> {
+    fn lines_of_several(rt: HostRuntime) -> Result<(), Fail> {
         match deliver_line(rt.alloc(), &mut Words::new(b"1-3,7,0-4611686018427387903")) {
             Ok(Command::Deliver { ranges }) => {
                 let wanted = [(1, 3), (7, 7), (0, 4611686018427387903)];

@@ -73,21 +73,6 @@ impl<'a> Words<'a> {
         }
     }
 
-    /// Whether there is a next word.
-    pub fn has_some(&self) -> bool
-        ensures { result ≡ nat_lt 0 (length (words_left self.now.line.now self.now.from)) }
-    {
-        self.again().next().is_some()
-    }
-
-    /// Whether there are two words or more.
-    pub fn has_more_than_one(&self) -> bool
-        ensures { result ≡ nat_lt 1 (length (words_left self.now.line.now self.now.from)) }
-    {
-        let mut words = self.again();
-        words.next().is_some() && words.has_some()
-    }
-
     /// A word that is this one.
     pub fn same(&mut self, wanted: &[u8]) -> Result<(), Halt>
         ensures line { self.new.line.now ≡ self.old.line.now }
