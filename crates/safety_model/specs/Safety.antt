@@ -55,9 +55,10 @@ abbrev pub AreLinked : Block → List Block → Type 0
 AreLinked a [] = ⊤
 AreLinked a (b ∷ bs) = IsTrue (follows_block a b) × AreLinked b bs
 
-abbrev pub IsChain : List Block → Type 0
-IsChain [] = ⊤
-IsChain (b ∷ bs) = AreLinked b bs
+-- a chain: the genesis block of the first configuration, and each block next after the one before it
+abbrev pub IsChain : Config → List Block → Type 0
+IsChain c [] = ⊥
+IsChain c (b ∷ bs) = (b ≡ genesis_block c) × AreLinked b bs
 
 -- each block is lawful under the configuration in force at its number
 abbrev pub AreLawful : Config → List Block → Type 0
@@ -77,7 +78,7 @@ pub record IsProvedAt (su : Setup) (h : History) (i s : ℕ) : Type 0 where
 -- the ledgers of all nodes are prefixes of one chain, whose blocks above 0 are lawful and proved
 pub record Agreement (su : Setup) (h : History) : Type 0 where
   pub prefixes : (i j : ℕ) → height i h ≤ height j h → IsPrefixOf (ledger su i h) (ledger su j h)
-  pub chain : (i : ℕ) → IsChain (ledger su i h)
+  pub chain : (i : ℕ) → IsChain su.config (ledger su i h)
   pub lawful : (i : ℕ) → AreLawful su.config (delivered i h)
   pub proved : (i s : ℕ) → 0 < s → s < height i h → IsProvedAt su h i s
 

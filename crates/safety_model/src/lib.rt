@@ -1,6 +1,15 @@
 //! The safety theorem of the ordering service, on lists of facts (Castro and Liskov 2002).
 #![tactic(auto)]
 
+ghost use Rattle.safety_model.specs.Safety.{RunsAgree};
+
 mod fact;
 
 pub use fact::Fact;
+
+/// Whatever correct nodes did by the rules, in whatever order, with Byzantine members up to the bound:
+/// their ledgers are prefixes of one chain, whose blocks are lawful and proved.
+#[tactic(auto, using(crate::proofs::Agreeing::runs_agree))]
+pub fn agreement()
+    ensures { RunsAgree }
+{}
