@@ -1,16 +1,24 @@
 //! The values of the ordering service, their bytes and hashes, and the traits of what stands outside.
 #![tactic(auto)]
 
+mod hashes;
+mod layouts;
 mod lists;
 mod members;
 mod memory;
 mod outside;
+mod spelling;
 mod values;
+mod writing;
 
+pub use hashes::{block_hash, content_hash, meta_hash};
 pub use lists::{Bytes, Copied, List, NoMemory};
 pub use members::{fault_bound, majority, quorum};
 pub use memory::{MemSink, MemSource};
 pub use outside::{Failed, Sink, Source};
+pub use spelling::{
+    put_block, put_cert, put_config, put_header, put_meta, put_request, put_requests, put_sig,
+};
 pub use values::{
     Batch, Block, Cert, Config, Digest, Header, Kind, Meta, Mode, Place, Proof, ReqId, ReqKind,
     Request, Sig,

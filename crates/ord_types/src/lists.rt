@@ -1,8 +1,9 @@
-ghost use Rattle.std.specs.Prelude.{◌≡◌, ℕ, ◌<◌, [], ◌∷◌, ◌++◌, length, IfOk, OnOk, OnErr, ◌==◌, filter};
+ghost use Rattle.std.specs.Prelude.{◌≡◌, ℕ, ◌<◌, [], ◌∷◌, ◌++◌, length, take, IfOk, OnOk, OnErr, ◌==◌, filter};
 ghost use Rattle.std.specs.Prelude.{List as Items};
 
 use std::alloc::{AllocError, AllocFailed, Global};
 use std::marker::Model;
+use std::mem;
 
 /// No memory was found.
 #[derive(Clone, Copy, Debug, PartialEq, Eq)]
@@ -184,6 +185,22 @@ impl Bytes {
         ensures { self.new ≡ [] }
     {
         self.bytes.clear();
+    }
+
+    /// Drops all but the first `count` bytes. The room stays.
+    pub fn truncate(&mut self, count: usize)
+        ensures { self.new ≡ take count self.old }
+    {
+        self.bytes.truncate(count);
+    }
+
+    /// Leaves no bytes, and gives those that were there.
+    pub fn take(&mut self) -> Bytes
+        ensures given { result ≡ self.old }
+        ensures left { self.new ≡ [] }
+    {
+        let empty = Bytes::new(*self.bytes.allocator());
+        mem::replace(self, empty)
     }
 }
 

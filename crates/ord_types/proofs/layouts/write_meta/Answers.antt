@@ -1,0 +1,4 @@
+use Rattle.ord_types.proofs.layouts.write_meta.Goals as goal
+
+pub returns : goal.returns
+returns g c = let join = g.met.W.Writer.joined in join _ _ _ _ _ (join _ _ _ _ _ (join _ _ _ _ _ (join _ _ _ _ _ c.put_u64.ensures c.put_u64-2.ensures) c.put_u64-3.ensures) c.write_ids.ensures) c.write_ids-2.ensures
