@@ -8,3 +8,4 @@ pub mod Deliveries
 pub mod Chains
 pub mod Texts
 pub mod Agreeing
+pub mod Histories

@@ -1,8 +1,8 @@
 -- Each value of a block has one spelling, so texts that do not collide keep blocks apart.
-use Rattle.std.proofs.Common.{◌≡◌, ℕ, ◌*◌, ◌≤◌, ◌<◌, ◌^◌, Bool, true, ◌&&◌, List, [], ◌∷◌, ◌++◌, length, refl, sym, ap, ◌∙◌, inl, inr, arith, length-append}
+use Rattle.std.proofs.Common.{◌≡◌, ℕ, suc, ◌*◌, ◌≤◌, ◌<◌, ◌^◌, Bool, true, ◌&&◌, List, [], ◌∷◌, ◌++◌, length, refl, sym, ap, ◌∙◌, inl, inr, arith, length-append}
 use Rattle.std.specs.Prelude.{◌==◌, nat_le}
 use Rattle.std.specs.Int.{w8, w32, w64, to_be_bytes, from_be_bytes}
-use Rattle.std.specs.List.{AllByRecursion, flat_map, list_all}
+use Rattle.std.specs.List.{All, flat_map, list_all}
 use Rattle.std.specs.Str.{bytes_eq}
 use Rattle.std.proofs.lemmas.Bool.{and_parts, leb-true}
 use Rattle.std.proofs.lemmas.List.{append_assoc}
@@ -30,6 +30,13 @@ parts_same (x ∷ xs) (y ∷ ys) us vs len same =
     let some = rest.0 in
     ((cc), rest.1)
 
+-- what holds of each of a list
+all_head : {X : Type 0} (P : X → Type 0) (x : X) (xs : List X) → All P (x ∷ xs) → P x
+all_head P x xs all = all 0 x (omega arith)
+
+all_tail : {X : Type 0} (P : X → Type 0) (x : X) (xs : List X) → All P (x ∷ xs) → All P xs
+all_tail P x xs all k d lt = all (suc k) d (omega arith)
+
 -- numbers
 eight_same : (a b : ℕ) → a < 2 ^ 64 → b < 2 ^ 64 → to_be_bytes w64 a ≡ to_be_bytes w64 b → a ≡ b
 eight_same a b fa fb same = sym (from_be_bytes-to_be_bytes_8 a fa) ∙ ap (from_be_bytes w64) same ∙ from_be_bytes-to_be_bytes_8 b fb
@@ -48,14 +55,14 @@ ids_length : (ids : List ℕ) → length (flat_map (λ id. to_be_bytes w32 id) i
 ids_length [] = refl
 ids_length (x ∷ xs) = omega (arith, ids_length xs, length-append (to_be_bytes w32 x) (flat_map (λ id. to_be_bytes w32 id) xs))
 
-ids_same : (xs ys : List ℕ) → AllByRecursion (λ id. id < 2 ^ 32) xs → AllByRecursion (λ id. id < 2 ^ 32) ys → flat_map (λ id. to_be_bytes w32 id) xs ≡ flat_map (λ id. to_be_bytes w32 id) ys → xs ≡ ys
+ids_same : (xs ys : List ℕ) → All (λ id. id < 2 ^ 32) xs → All (λ id. id < 2 ^ 32) ys → flat_map (λ id. to_be_bytes w32 id) xs ≡ flat_map (λ id. to_be_bytes w32 id) ys → xs ≡ ys
 ids_same [] [] fx fy same = refl
 ids_same [] (y ∷ ys) fx fy same = absurd (omega (arith, ap length same, ids_length (y ∷ ys)))
 ids_same (x ∷ xs) [] fx fy same = absurd (omega (arith, ap length same, ids_length (x ∷ xs)))
 ids_same (x ∷ xs) (y ∷ ys) fx fy same =
     let p = parts_same (to_be_bytes w32 x) (to_be_bytes w32 y) (flat_map (λ id. to_be_bytes w32 id) xs) (flat_map (λ id. to_be_bytes w32 id) ys) refl same in
-    let first = four_same x y fx.0 fy.0 p.0 in
-    let rest = ids_same xs ys fx.1 fy.1 p.1 in
+    let first = four_same x y (all_head (λ id. id < 2 ^ 32) x xs fx) (all_head (λ id. id < 2 ^ 32) y ys fy) p.0 in
+    let rest = ids_same xs ys (all_tail (λ id. id < 2 ^ 32) x xs fx) (all_tail (λ id. id < 2 ^ 32) y ys fy) p.1 in
     ap (λ (x : ℕ). x ∷ xs) first ∙ ap (λ (zs : List ℕ). y ∷ zs) rest
 
 -- metas of one configuration
@@ -126,7 +133,7 @@ request_same a b us vs fa fb sa sb same =
       ends.1,
     )
 
-rows_same : (xs ys : List Request) → AllByRecursion RequestFits xs → AllByRecursion RequestFits ys → list_all (λ r. nat_le (length r.payload) 65536) xs ≡ true → list_all (λ r. nat_le (length r.payload) 65536) ys ≡ true
+rows_same : (xs ys : List Request) → All RequestFits xs → All RequestFits ys → list_all (λ r. nat_le (length r.payload) 65536) xs ≡ true → list_all (λ r. nat_le (length r.payload) 65536) ys ≡ true
     → flat_map request_text xs ≡ flat_map request_text ys → xs ≡ ys
 rows_same [] [] fx fy sx sy same = refl
 rows_same [] (y ∷ ys) fx fy sx sy same = absurd (omega (arith, ap length same, length-append (front_of y) y.payload, length-append (request_text y) (flat_map request_text ys)))
@@ -135,8 +142,8 @@ rows_same (x ∷ xs) (y ∷ ys) fx fy sx sy same =
     let small : Request → Bool = λ r. nat_le (length r.payload) 65536 in
     let px = and_parts (small x) (list_all small xs) sx in
     let py = and_parts (small y) (list_all small ys) sy in
-    let p = request_same x y (flat_map request_text xs) (flat_map request_text ys) fx.0 fy.0 (leb-true (length x.payload) 65536 px.0) (leb-true (length y.payload) 65536 py.0) same in
-    let rest = rows_same xs ys fx.1 fy.1 px.1 py.1 p.1 in
+    let p = request_same x y (flat_map request_text xs) (flat_map request_text ys) (all_head RequestFits x xs fx) (all_head RequestFits y ys fy) (leb-true (length x.payload) 65536 px.0) (leb-true (length y.payload) 65536 py.0) same in
+    let rest = rows_same xs ys (all_tail RequestFits x xs fx) (all_tail RequestFits y ys fy) px.1 py.1 p.1 in
     let first = p.0 in
     ap (λ (x : Request). x ∷ xs) first ∙ ap (λ (zs : List Request). y ∷ zs) rest
 

@@ -3,9 +3,14 @@
 
 ghost use Rattle.safety_model.specs.Safety.{RunsAgree};
 
+mod blocks;
 mod fact;
+mod history;
+mod log;
+mod widths;
 
 pub use fact::Fact;
+pub use log::{FactLog, FactRefusal};
 
 /// Whatever correct nodes did by the rules, in whatever order, with Byzantine members up to the bound:
 /// their ledgers are prefixes of one chain, whose blocks are lawful and proved.
