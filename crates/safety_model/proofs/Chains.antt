@@ -4,10 +4,10 @@ use Rattle.std.proofs.lemmas.Bool.{cases_lt}
 use Rattle.std.proofs.lemmas.List.{get_or_append_left, get_or_push, take-append-le, length-append}
 use Rattle.std.proofs.Math.Seq.{take-append_seam}
 use Rattle.safety_model.specs.Blocks.{Block, Config, change_in, config_at}
-use Rattle.safety_model.specs.Facts.{Proof, History, Stands}
+use Rattle.safety_model.specs.Facts.{Fact, Proof, History, Stands}
 use Rattle.safety_model.specs.declared.fact.Fact.TheVariants.{Delivered}
 use Rattle.safety_model.specs.State.{Setup, delivered, delivered_by}
-use Rattle.safety_model.specs.Rules.{Allowed, IsRun}
+use Rattle.safety_model.specs.Rules.{Allowed, IsRun, actor, tests, tests_under}
 use Rattle.safety_model.proofs.Moments.{WasOnce, now}
 use Rattle.safety_model.proofs.Deliveries.{adds, IsOnlyConfig}
 use Rattle.safety_model.proofs.Deliveries.Adds.{Nothing, One}
@@ -17,6 +17,9 @@ pub config_stays : (c : Config) (bs : List Block) → config_at c bs ≡ c
 unfolding change_in
 config_stays c [] = refl
 config_stays c (b ∷ bs) = config_stays c bs
+
+pub tests_are : (su : Setup) (h : History) (f : Fact) → tests su h f ≡ tests_under su h su.config f
+tests_are su h f = ap (λ (c : Config). tests_under su h c f) (config_stays su.config (delivered (actor f) h))
 
 -- lists that agree below p begin alike
 pub take_alike : (d : Block) (p : ℕ) (xs ys : List Block) → p ≤ length xs → p ≤ length ys → ((r : ℕ) → r < p → get_or xs r d ≡ get_or ys r d) → take p xs ≡ take p ys

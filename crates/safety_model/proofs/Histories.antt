@@ -1,5 +1,5 @@
 -- A list of facts, the oldest first, as a history; and the signers of a list of signatures.
-use Rattle.std.proofs.Common.{◌≡◌, ℕ, ◌+◌, ◌≤◌, ◌<◌, Bool, true, false, ◌||◌, ◌&&◌, cond, List, [], ◌∷◌, ◌++◌, length, get_or, take, reverse, refl, sym, ap, ◌∙◌, arith, map}
+use Rattle.std.proofs.Common.{◌≡◌, ℕ, ◌+◌, ◌≤◌, ◌<◌, Bool, true, false, ◌||◌, ◌&&◌, ◌&&◌, cond, List, [], ◌∷◌, ◌++◌, length, get_or, take, reverse, refl, sym, ap, ◌∙◌, arith, map}
 use Rattle.std.specs.Prelude.{◌==◌}
 use Rattle.std.specs.List.{list_all, list_any}
 use Rattle.std.proofs.lemmas.List.{reverse-append, take_more}
@@ -41,3 +41,7 @@ counted_no test ids i n m b lt inv is was more =
 pub is_in_signers : (id : ℕ) (sigs : List Sig) → is_in id (map (λ (s : Sig). s.signer) sigs) ≡ list_any (λ (s : Sig). s.signer == id) sigs
 is_in_signers id [] = refl
 is_in_signers id (s ∷ ss) = ap (λ b. (s.signer == id) || b) (is_in_signers id ss)
+
+pub signers_all : (test : ℕ → Bool) (sigs : List Sig) → list_all test (map (λ (s : Sig). s.signer) sigs) ≡ list_all (λ (s : Sig). test s.signer) sigs
+signers_all test [] = refl
+signers_all test (s ∷ ss) = ap (λ b. test s.signer && b) (signers_all test ss)

@@ -4,9 +4,7 @@ ghost use Rattle.std.specs.List.{list_all};
 ghost use Rattle.ord_types.specs.Spelling.{request_text};
 ghost use Rattle.safety_model.specs.Blocks.{have_room, has_room, content_fits, meta_fits, is_linked, is_ordinary, is_normal, total_size, are_lawful, is_lawful, is_next_at};
 
-use ord_types::{
-    Block, Config, Digest, Meta, Mode, ReqKind, Request, content_hash, meta_hash,
-};
+use ord_types::{Block, Config, Digest, Meta, Mode, ReqKind, Request, content_hash, meta_hash};
 
 /// The most requests that the format has room for.
 const MOST_REQUESTS: usize = 1000;

@@ -197,8 +197,7 @@ fn is_signer(facts: &[Fact], byzantine: &[u32], members: &[u32], query: &Query, 
     is_among(members, sig.signer) && is_counted(facts, byzantine, query, sig.signer)
 }
 
-/// Whether the signers are all members, who are Byzantine or have a fact for which the query asks.
-pub fn are_signers(
+fn each_is_signer(
     facts: &[Fact],
     byzantine: &[u32],
     members: &[u32],
@@ -209,6 +208,20 @@ pub fn are_signers(
 {
     sigs.iter()
         .all(|sig| is_signer(facts, byzantine, members, query, sig))
+}
+
+/// Whether the signers are all members, who are Byzantine or have a fact for which the query asks.
+#[tactic(auto, using(crate::proofs::Histories::signers_all))]
+pub fn are_signers(
+    facts: &[Fact],
+    byzantine: &[u32],
+    members: &[u32],
+    query: &Query,
+    sigs: &[Sig],
+) -> bool
+    ensures { result ≡ list_all (λ j. is_in j members.now && (is_in j byzantine.now || has (is_asked query.now j) (reverse facts.now))) (map (λ (s : Sig). s.signer) sigs.now) }
+{
+    each_is_signer(facts, byzantine, members, query, sigs)
 }
 
 fn is_delivery(fact: &Fact, member: u32) -> bool
