@@ -1,5 +1,6 @@
 pub mod Causes
 pub mod Genesis
+pub mod Grammar
 pub mod Growth
 pub mod Hashes
 pub mod Lengths

@@ -1,5 +1,5 @@
 -- The one spelling of each value as bytes. Numbers are unsigned and big-endian.
-use Rattle.std.specs.Prelude.{ℕ, List, [], ◌∷◌, ◌++◌, length}
+use Rattle.std.specs.Prelude.{ℕ, List, ◌++◌, length}
 use Rattle.std.specs.Int.{w8, w16, w32, w64, to_be_bytes}
 use Rattle.std.specs.List.{flat_map}
 pub use Rattle.ord_types.specs.declared.values.Batch.{Batch}

@@ -5,9 +5,7 @@ ghost use Rattle.ord_types.specs.Spelling.{ids_text, batch_text, config_text, si
 ghost use Rattle.ord_types.specs.Lengths.{FitsIds, FitsConfig, FitsSig, FitsCert, FitsRequest, FitsRequests, FitsMeta, FitsBlock};
 
 use crate::lists::List;
-use crate::values::{
-    Batch, Block, Cert, Config, Header, Kind, Meta, Mode, ReqKind, Request, Sig,
-};
+use crate::values::{Batch, Block, Cert, Config, Header, Kind, Meta, Mode, ReqKind, Request, Sig};
 use crate::writing::Writer;
 
 pub(crate) fn write_header<W: Writer>(writer: &mut W, header: &Header)

@@ -1,6 +1,7 @@
 //! The values of the ordering service, their bytes and hashes, and the traits of what stands outside.
 #![tactic(auto)]
 
+mod genesis;
 mod hashes;
 mod layouts;
 mod lists;
@@ -8,9 +9,12 @@ mod members;
 mod memory;
 mod outside;
 mod spelling;
+#[cfg(test)]
+mod tests;
 mod values;
 mod writing;
 
+pub use genesis::genesis_block;
 pub use hashes::{block_hash, content_hash, meta_hash};
 pub use lists::{Bytes, Copied, List, NoMemory};
 pub use members::{fault_bound, majority, quorum};

@@ -105,6 +105,15 @@ impl<T: Copied> Copied for List<T> {
     }
 }
 
+impl<T: Copied> Copied for Option<T> {
+    fn copy(&self) -> Result<Option<T>, NoMemory> {
+        match self {
+            Some(item) => Ok(Some(item.copy()?)),
+            None => Ok(None),
+        }
+    }
+}
+
 impl Copied for u32 {
     fn copy(&self) -> Result<u32, NoMemory> {
         Ok(*self)

@@ -145,6 +145,12 @@ impl Copied for Request {
     }
 }
 
+impl Copied for Header {
+    fn copy(&self) -> Result<Header, NoMemory> {
+        Ok(*self)
+    }
+}
+
 impl Copied for Meta {
     fn copy(&self) -> Result<Meta, NoMemory> {
         Ok(Meta {
@@ -191,5 +197,18 @@ impl Copied for Proof {
             Proof::Raft => Ok(Proof::Raft),
             Proof::Bft(cert) => Ok(Proof::Bft(cert.copy()?)),
         }
+    }
+}
+
+impl Copied for Place {
+    fn copy(&self) -> Result<Place, NoMemory> {
+        Ok(Place {
+            config: self.config.copy()?,
+            start: self.start,
+            height: self.height,
+            last: self.last,
+            last_meta: self.last_meta.copy()?,
+            last_cert: self.last_cert.copy()?,
+        })
     }
 }

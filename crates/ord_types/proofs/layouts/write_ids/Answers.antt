@@ -1,5 +1,5 @@
-use Rattle.std.proofs.Common.{ℕ, List, subst, sym}
-use Rattle.std.specs.Int.{w8, w32, to_be_bytes}
+use Rattle.std.proofs.Common.{ℕ, List, subst}
+use Rattle.std.specs.Int.{w32, to_be_bytes}
 use Rattle.ord_types.proofs.Pieces.{all_pieces}
 use Rattle.ord_types.proofs.layouts.write_ids.Goals as goal
 

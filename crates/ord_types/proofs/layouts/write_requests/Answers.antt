@@ -1,4 +1,4 @@
-use Rattle.std.proofs.Common.{ℕ, List, subst, sym}
+use Rattle.std.proofs.Common.{ℕ, List, subst}
 use Rattle.ord_types.specs.Spelling.{request_text}
 use Rattle.ord_types.proofs.Pieces.{all_pieces, one_piece_more}
 use Rattle.ord_types.proofs.layouts.write_requests.Goals as goal
