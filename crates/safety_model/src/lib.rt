@@ -7,6 +7,8 @@ mod blocks;
 mod fact;
 mod history;
 mod log;
+#[cfg(test)]
+mod tests;
 mod widths;
 
 pub use fact::Fact;
