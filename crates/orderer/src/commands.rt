@@ -28,7 +28,7 @@ fn is_later_command(command: &str, first: &str, second: &str) -> bool
 
 /// What these words ask for.
 #[tactic(auto, unfolding(crate::specs::Words::asked))]
-pub fn asked(words: &[String]) -> Asked
+pub fn judged(words: &[String]) -> Asked
     ensures { result ≡ asked (map string_bytes words.now) }
 {
     match words {

@@ -4,6 +4,8 @@
 mod adapters;
 mod commands;
 mod offline;
+#[cfg(test)]
+mod tests;
 
 use adapters::{NoSource, Reading, Writing};
 use offline::run_offline;

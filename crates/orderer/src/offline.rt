@@ -7,7 +7,7 @@ ghost use Rattle.world_model.specs.Histories.{run_of};
 ghost use Rattle.orderer.specs.Words.{asked};
 ghost use Rattle.orderer.specs.declared.commands.Asked.TheVariants as asked_for;
 
-use crate::commands::{Asked, asked};
+use crate::commands::{Asked, judged};
 use ord_types::{Sink, Source};
 use script_play::{fault_status, play, status};
 use std::alloc::Global;
@@ -67,7 +67,7 @@ pub fn run_offline<S: Source, K: Sink>(
     ensures front { asked (map string_bytes words.now) ≡ asked_for.World → IsSome (S.left source.old) → IsSome (K.content out.old) →
         TookFront (K.content out.old) (K.content out.new) (run_of [] (told (S.left source.old))).text }
 {
-    match asked(words) {
+    match judged(words) {
         Asked::World => run_world(alloc, source, out),
         Asked::Later => 17,
         Asked::Unknown => 2,
