@@ -18,7 +18,8 @@ pub struct MemSource {
 impl MemSource {
     /// A source of these bytes. The calls in `fails`, counted from 1, fail.
     pub fn new(bytes: Bytes, fails: List<u64>) -> MemSource
-        ensures { ⟦<MemSource as Source>⟧.left result ≡ Some bytes }
+        ensures left { ⟦<MemSource as Source>⟧.left result ≡ Some bytes }
+        ensures faults { ⟦<MemSource as Source>⟧.faults result ≡ 0 }
     {
         MemSource {
             bytes,
@@ -62,7 +63,8 @@ impl MemSink {
     /// A sink that has taken nothing. The calls in `fails`, counted from 1, fail; so does a call that
     /// finds no memory.
     pub fn new(alloc: Global, fails: List<u64>) -> Result<MemSink, NoMemory>
-        ensures { IfOk result (λ sink. ⟦<MemSink as Sink>⟧.content sink ≡ Some []) }
+        ensures content { IfOk result (λ sink. ⟦<MemSink as Sink>⟧.content sink ≡ Some []) }
+        ensures faults { IfOk result (λ sink. ⟦<MemSink as Sink>⟧.faults sink ≡ 0) }
     {
         Ok(MemSink {
             bytes: Bytes::new(alloc),

@@ -11,7 +11,10 @@ pub struct Reading<R> {
 }
 
 impl<R> Reading<R> {
-    pub fn new(inner: R) -> Reading<R> {
+    /// A source that has not failed yet.
+    pub fn new(inner: R) -> Reading<R>
+        ensures { result.faults ≡ 0 }
+    {
         Reading { inner, faults: 0 }
     }
 }
@@ -40,7 +43,10 @@ pub struct Writing<W> {
 }
 
 impl<W> Writing<W> {
-    pub fn new(inner: W) -> Writing<W> {
+    /// A sink that has not failed yet.
+    pub fn new(inner: W) -> Writing<W>
+        ensures { result.faults ≡ 0 }
+    {
         Writing { inner, faults: 0 }
     }
 }
@@ -68,7 +74,10 @@ pub struct NoSource {
 }
 
 impl NoSource {
-    pub fn new() -> NoSource {
+    /// A source of which no call was made.
+    pub fn new() -> NoSource
+        ensures { result.faults ≡ 0 }
+    {
         NoSource { faults: 0 }
     }
 }

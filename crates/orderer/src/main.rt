@@ -8,28 +8,35 @@ mod offline;
 mod tests;
 
 use adapters::{NoSource, Reading, Writing};
+use commands::{Asked, judged};
 use offline::run_offline;
+use std::env;
 use std::fs::File;
 use std::process::ExitCode;
-use std::{env, io};
 
-fn main(rt: HostRuntime) -> io::Result<ExitCode> {
+/// The status for want of memory.
+const NO_MEMORY: u8 = 8;
+
+fn main(rt: HostRuntime) -> ExitCode {
     let mut words = Vec::new(rt.alloc());
-    for word in env::args(&rt)?.skip(1) {
-        words.push(word)?;
-    }
-    let mut out = Writing::new(rt.stdout());
-    let status = match words.get(1) {
-        Some(path) => match File::open(&rt, path.as_str()) {
-            Ok(file) => run_offline(
-                rt.alloc(),
-                words.as_slice(),
-                &mut Reading::new(file),
-                &mut out,
-            ),
-            Err(_) => run_offline(rt.alloc(), words.as_slice(), &mut NoSource::new(), &mut out),
-        },
-        None => run_offline(rt.alloc(), words.as_slice(), &mut NoSource::new(), &mut out),
+    let Ok(arguments) = env::args(&rt) else {
+        return ExitCode::from(NO_MEMORY);
     };
-    Ok(ExitCode::from(status))
+    for word in arguments.skip(1) {
+        if words.push(word).is_err() {
+            return ExitCode::from(NO_MEMORY);
+        }
+    }
+    let words = words.as_slice();
+    let mut out = Writing::new(rt.stdout());
+    if judged(words) == Asked::World {
+        if let Some(path) = words.get(1) {
+            if let Ok(file) = File::open(&rt, path.as_str()) {
+                let mut source = Reading::new(file);
+                return ExitCode::from(run_offline(rt.alloc(), words, &mut source, &mut out));
+            }
+        }
+    }
+    let mut source = NoSource::new();
+    ExitCode::from(run_offline(rt.alloc(), words, &mut source, &mut out))
 }

@@ -1,8 +1,9 @@
 -- A list of facts, the oldest first, as a history; and the signers of a list of signatures.
-use Rattle.std.proofs.Common.{◌≡◌, ℕ, ◌+◌, ◌≤◌, ◌<◌, Bool, true, false, ◌||◌, ◌&&◌, ◌&&◌, cond, List, [], ◌∷◌, ◌++◌, length, get_or, take, reverse, refl, sym, ap, ◌∙◌, arith, map}
+use Rattle.std.proofs.Common.{◌≡◌, ℕ, ◌+◌, ◌≤◌, ◌<◌, Bool, true, false, ◌||◌, cond, List, [], ◌∷◌, ◌++◌, length, get_or, take, reverse, refl, sym, ap, ◌∙◌, arith, map}
 use Rattle.std.specs.Prelude.{◌==◌}
 use Rattle.std.specs.List.{list_all, list_any}
 use Rattle.std.proofs.lemmas.List.{reverse-append, take_more}
+use Rattle.std.proofs.lemmas.List.Folds.{list_all-map}
 use Rattle.ord_types.specs.Members.{how_many, is_in}
 use Rattle.safety_model.specs.Facts.{Fact, Sig}
 
@@ -43,5 +44,4 @@ is_in_signers id [] = refl
 is_in_signers id (s ∷ ss) = ap (λ b. (s.signer == id) || b) (is_in_signers id ss)
 
 pub signers_all : (test : ℕ → Bool) (sigs : List Sig) → list_all test (map (λ (s : Sig). s.signer) sigs) ≡ list_all (λ (s : Sig). test s.signer) sigs
-signers_all test [] = refl
-signers_all test (s ∷ ss) = ap (λ b. test s.signer && b) (signers_all test ss)
+signers_all test sigs = list_all-map test (λ (s : Sig). s.signer) sigs

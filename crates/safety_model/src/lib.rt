@@ -16,7 +16,8 @@ pub use fact::Fact;
 pub use log::{FactLog, FactRefusal};
 
 /// Whatever correct nodes did by the rules, in whatever order, with Byzantine members up to the bound:
-/// their ledgers are prefixes of one chain, whose blocks are lawful and proved.
+/// their ledgers are prefixes of one chain, whose blocks are lawful and proved. This is the theorem over all
+/// lists of facts; the call does nothing.
 #[tactic(auto, using(crate::proofs::Agreeing::runs_agree))]
 pub fn agreement()
     ensures { RunsAgree }

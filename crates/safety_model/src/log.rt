@@ -9,7 +9,7 @@ ghost use Rattle.safety_model.specs.Blocks.{is_next_at};
 ghost use Rattle.safety_model.specs.Facts.{has, is_prepared, signers_of};
 ghost use Rattle.safety_model.specs.Queries.{is_asked};
 ghost use Rattle.safety_model.specs.State.{tip};
-ghost use Rattle.safety_model.specs.Rules.{Allowed, count, keeps_bound, is_bft_proof, is_proof, quorum_of, tests, tests_under, vote_tests, first_broken};
+ghost use Rattle.safety_model.specs.Rules.{Allowed, IsRun, count, keeps_bound, is_bft_proof, is_proof, quorum_of, tests, tests_under, vote_tests, first_broken};
 ghost use Rattle.safety_model.specs.declared.fact.Fact.TheVariants as kinds;
 ghost use Rattle.safety_model.specs.Safety.{NoCollision, Agreement};
 
@@ -94,10 +94,12 @@ impl FactLog {
         Ok(())
     }
 
-    /// Whatever was pushed, the ledgers of all nodes are prefixes of one chain.
+    /// Whatever was pushed, it is a run, and the ledgers of all nodes are prefixes of one chain, whose blocks
+    /// are lawful and proved. This is the theorem; the call does nothing.
     #[tactic(auto, using(crate::proofs::Agreeing::runs_agree))]
     pub fn agrees(&self)
-        ensures { NoCollision self.now.setup self.now.history → Agreement self.now.setup self.now.history }
+        ensures run { IsRun self.now.setup self.now.history }
+        ensures agreement { NoCollision self.now.setup self.now.history → Agreement self.now.setup self.now.history }
     {
         let _ = &self.genesis;
     }

@@ -78,7 +78,7 @@ fn scripts(rt: HostRuntime) -> Result<(), Fail> {
             3,
         ),
         (
-            b"#\ndeliver 1\nflush",
+            b"#\nstop 1 keep\nflush",
             b"2 not built\n",
             Ending::LaterLine(2),
             17,
