@@ -10,6 +10,7 @@ use mathlib.Core.List.{reverse-cons}
 use Rattle.node_model.specs.Letters.{Letter, kind_of, config_in, view_in, number_in, same_slot}
 use Rattle.node_model.specs.Answers.{is_near}
 use Rattle.node_model.specs.Keeping.{firsts, is_of_view}
+use Rattle.node_model.specs.Seen.{IsAtMost}
 
 -- LISTS
 
@@ -116,9 +117,6 @@ any-kept e v s l ms is =
     ∙ any-filter (same_slot l) (is_of_view e v s) (λ x same. of_one_view e v s l x is (SameSlot-from_test l x same)) (firsts ms)
     ∙ any-firsts l ms
 
-abbrev pub NotAbove : ℕ → Letter → Type 0
-NotAbove most l = number_in l.message ≤ most
-
 near_next : (s n : ℕ) → n ≤ s + 1 → ((eqb n s || eqb n (s + 1)) && (eqb n (s + 1) || eqb n (s + 1 + 1))) ≡ (eqb n (s + 1) || eqb n (s + 1 + 1))
 near_next s n le = grind (arith, nat_tests)
 
@@ -127,16 +125,16 @@ and_and true true c d r is = is
 and_and true false c d r is = refl
 and_and false b c d r is = refl
 
-near_of_view : (e v s : ℕ) (l : Letter) → NotAbove (s + 1) l → (is_of_view e v s l && is_near (s + 1) l) ≡ is_of_view e v (s + 1) l
+near_of_view : (e v s : ℕ) (l : Letter) → IsAtMost (s + 1) l → (is_of_view e v s l && is_near (s + 1) l) ≡ is_of_view e v (s + 1) l
 near_of_view e v s l le =
     and_and (eqb (config_in l.message) e) (eqb (view_in l.message) v) (is_near s l) (is_near (s + 1) l) (is_near (s + 1) l) (near_next s (number_in l.message) le)
 
 -- what is left of them at the next height
-pub kept_next : (e v s : ℕ) (ms : List Letter) → AllByRecursion (NotAbove (s + 1)) ms
+pub kept_next : (e v s : ℕ) (ms : List Letter) → AllByRecursion (IsAtMost (s + 1)) ms
     → filter (is_near (s + 1)) (reverse (filter (is_of_view e v s) ms)) ≡ reverse (filter (is_of_view e v (s + 1)) ms)
 kept_next e v s ms all =
     filter-reverse (is_near (s + 1)) (filter (is_of_view e v s) ms)
-    ∙ ap reverse (filter-filter (NotAbove (s + 1)) (is_near (s + 1)) (is_of_view e v s) (is_of_view e v (s + 1)) (near_of_view e v s) ms all)
+    ∙ ap reverse (filter-filter (IsAtMost (s + 1)) (is_near (s + 1)) (is_of_view e v s) (is_of_view e v (s + 1)) (near_of_view e v s) ms all)
 
 first_all : (P : Letter → Type 0) (m : Letter) (ms : List Letter) (b : Bool) → P m → AllByRecursion P (firsts ms) → AllByRecursion P (cond b (firsts ms) (m ∷ firsts ms))
 first_all P m ms true one all = all
