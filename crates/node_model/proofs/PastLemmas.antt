@@ -1,9 +1,11 @@
 -- Lemmas on a node's past: what each way of going on changes, against the state that is updated in place.
 use Rattle.std.proofs.Common.{◌≡◌, ℕ, suc, ◌+◌, ◌<◌, ◌≤◌, Bool, true, false, cond, not, ◌&&◌, ◌||◌, eqb, leb, ltb, is_none, List, [], ◌∷◌, ◌++◌, reverse, filter, length, sym, ap, ap₂, ◌∙◌, refl, subst, arith, Option, Some, None}
-use Rattle.std.proofs.lemmas.Bool.{eqb-true, eq-eqb, and_parts, cases_Bool}
+use Rattle.std.proofs.lemmas.Bool.{eqb-true, eq-eqb, and_from, ne_eqb}
+use Rattle.std.proofs.lemmas.Slice.Eq.{bytes_eq-Decides}
 use Rattle.std.proofs.lemmas.Bool.Decides.{nat_tests}
 use Rattle.std.proofs.lemmas.List.{append-nil, length_push}
 use Rattle.std.specs.List.{list_any, AllByRecursion}
+use Rattle.std.specs.Str.{bytes_eq}
 use mathlib.Core.List.{reverse-cons}
 use Rattle.ord_types.specs.Members.{is_in, is_raft}
 use Rattle.ord_types.specs.Hashes.{block_hash}
@@ -11,10 +13,11 @@ use Rattle.ord_types.specs.Genesis.{genesis_block}
 use Rattle.ord_types.specs.declared.values.Block.{Block}
 use Rattle.ord_types.specs.declared.values.Cert.{Cert}
 use Rattle.ord_types.specs.declared.values.Config.{Config}
+use Rattle.ord_types.specs.declared.values.Proof.{Proof}
 use Rattle.ord_types.specs.declared.values.Proof.TheVariants as proof_of
 use Rattle.safety_model.specs.Blocks.{Request, change_in, config_at}
 use Rattle.safety_model.specs.Facts.{History, has}
-use Rattle.safety_model.specs.State.{Setup, config_of, delivered, height, is_inside}
+use Rattle.safety_model.specs.State.{Setup, config_of, delivered, height, is_inside, last_delivered, block_or}
 use Rattle.safety_model.specs.declared.fact.Fact.{Fact}
 use Rattle.safety_model.specs.declared.fact.Fact.TheVariants.{Accepted, Prepared, Delivered}
 use Rattle.signer_edge.specs.Accepts.{Accepts}
@@ -23,11 +26,11 @@ use Rattle.bft_wire.specs.declared.reason.Reason.TheVariants as reason
 use Rattle.node_model.specs.Letters.{Letter, Commit, config_in, view_in, number_in, same_slot}
 use Rattle.node_model.specs.Leading.{Place}
 use Rattle.node_model.specs.Acts.{View}
-use Rattle.node_model.specs.Answers.{is_near, is_signed, first_reason, stands_outside, is_new, is_repeat, keep, kept_after, at_place}
+use Rattle.node_model.specs.Answers.{is_near, is_signed, first_reason, stands_outside, is_new, is_repeat, keep, kept_after, at_place, raised, fresh}
 use Rattle.node_model.specs.Steps.{Event, Tick, FromMember}
 use Rattle.node_model.specs.Cores.{Core, core_opens, core_comes, core_accepts, core_prepares, core_delivers, next_place}
 use Rattle.node_model.specs.Past.{Past, Opened, Came, Did, Signed, accepted_block, facts_of}
-use Rattle.node_model.specs.Keeping.{PastNode, firsts, is_of_view, is_prepared_at, is_timely, kept, own_commit, past_accepts, past_comes, past_delivers, past_opens, past_prepares, past_place, past_view, place_of, start_after, timely, view_of}
+use Rattle.node_model.specs.Keeping.{PastNode, firsts, is_of_view, is_prepared_at, is_timely, kept, own_commit, past_accepts, past_comes, past_delivers, past_opens, past_prepares, past_place, past_view, place_of, start_after, timely, view_of, cert_of_last}
 use Rattle.node_model.specs.Seen.{core_of_past, IsAtMost, NothingAhead}
 use Rattle.node_model.proofs.KeptLemmas.{any-kept, all-firsts, kept_next}
 
@@ -295,14 +298,83 @@ seen_prepares d m accepts n =
 
 -- DELIVERING
 
+-- the place behind these blocks
+abbrev place_by : Setup → List Block → Option (Block × Proof) → Place
+place_by su bs last =
+    record {
+      config = config_at su.config bs;
+      start = start_after 1 bs;
+      height = length bs + 1;
+      last = block_hash (block_or su.genesis last);
+      last_meta = (block_or su.genesis last).meta;
+      last_cert = cert_of_last last;
+    }
+
+config_same : (c : Config) (bs cs : List Block) → config_at c bs ≡ config_at c cs
+config_same c bs cs = config_stays c bs ∙ sym (config_stays c cs)
+
 place_delivered : (su : Setup) (i : ℕ) (b : Block) (cert : Cert) (h : History) → place_of su i (Delivered i b (proof_of.Bft cert) ∷ h) ≡ next_place (place_of su i h) b cert
 unfolding place_of
-place_delivered su i b cert h = ?
+place_delivered su i b cert h =
+    let bs = delivered i h in
+    let before = last_delivered i h in
+    ap (λ t. place_by su (bs ++ cond t (b ∷ []) []) (cond t (Some (b, proof_of.Bft cert)) before)) (self i)
+    ∙ ap₂ (λ c st. record (place_by su (bs ++ b ∷ []) (Some (b, proof_of.Bft cert))) { config = c; start = st }) (config_same su.config (bs ++ b ∷ []) bs) (start_stays 1 (bs ++ b ∷ []) ∙ sym (start_stays 1 bs))
+    ∙ ap (λ k. record (next_place (place_of su i h) b cert) { height = k + 1 }) (length_push bs b)
+
+-- a view with nothing but these
+abbrev view_fields : ℕ → Config → ℕ → Option Block → Bool → List Letter → View
+view_fields i c s accepted prepared letters =
+    record { me = i; config = c.number; members = c.members; height = s; view = 0; left = 0; accepted = accepted; is_prepared = prepared; kept = letters }
+
+same_config : (c : Config) → (eqb c.number c.number && bytes_eq c.members c.members) ≡ true
+same_config c = and_from (eqb c.number c.number) (bytes_eq c.members c.members) (self c.number) ((bytes_eq-Decides c.members c.members).1 refl)
+
+higher : (s : ℕ) → eqb s (s + 1) ≡ false
+higher s = ne_eqb s (s + 1) (λ is. omega arith)
+
+at_next : (su : Setup) (i : ℕ) (past : Past) (b : Block) (cert : Cert) → at_place (next_place (place_of su i (facts_of past)) b cert) (view_of su i past) ≡ raised (next_place (place_of su i (facts_of past)) b cert) (view_of su i past)
+unfolding place_of view_of
+at_next su i past b cert =
+    let place = next_place (place_of su i (facts_of past)) b cert in
+    let w = view_of su i past in
+    let c = config_of su i (facts_of past) in
+    let s = height i (facts_of past) in
+    ap₂ (λ t u. cond t (cond u w (raised place w)) (fresh w.me place)) (same_config c) (higher s)
+
+raised_is : (su : Setup) (i : ℕ) (past : Past) (b : Block) (cert : Cert)
+    → raised (next_place (place_of su i (facts_of past)) b cert) (view_of su i past)
+    ≡ view_fields i (config_of su i (facts_of past)) (height i (facts_of past) + 1) None false (filter (is_near (height i (facts_of past) + 1)) (held (config_of su i (facts_of past)).number (height i (facts_of past)) (timely su i past)))
+unfolding place_of view_of
+raised_is su i past b cert = refl
+
+higher_view : (su : Setup) (i : ℕ) (past : Past) (b : Block) (p : Proof)
+    → view_of su i (Did (Delivered i b p) None ∷ past) ≡ view_at su i (config_of su i (facts_of past)) (height i (facts_of past) + 1) (Did (Delivered i b p) None ∷ past)
+higher_view su i past b p =
+    let now = Did (Delivered i b p) None ∷ past in
+    let bs = delivered i (facts_of past) in
+    view_by_blocks su i now (bs ++ b ∷ []) (ap (λ t. bs ++ cond t (b ∷ []) []) (self i))
+    ∙ ap₂ (λ c s. view_at su i c s now) (config_same su.config (bs ++ b ∷ []) bs) (ap (λ k. k + 1) (length_push bs b))
+
+emptied : (n : PastNode) (c : Config) → NothingAhead n
+    → view_fields n.id c (height n.id (facts_of n.past) + 1) None false (filter (is_near (height n.id (facts_of n.past) + 1)) (held c.number (height n.id (facts_of n.past)) (timely n.setup n.id n.past)))
+    ≡ view_fields n.id c (height n.id (facts_of n.past) + 1) (accepted_block n.id c.number 0 (height n.id (facts_of n.past) + 1) n.past)
+      (has (is_prepared_at n.id c.number 0 (height n.id (facts_of n.past) + 1)) (facts_of n.past)) (held c.number (height n.id (facts_of n.past) + 1) (timely n.setup n.id n.past))
+emptied n c ahead =
+    let i = n.id in
+    let s = height i (facts_of n.past) in
+    let above : s < s + 1 = omega arith in
+    let ms = timely n.setup i n.past in
+    ap₂ (λ a p. view_fields i c (s + 1) a p (filter (is_near (s + 1)) (held c.number s ms))) (sym (ahead.accepted c.number 0 (s + 1) above)) (sym (ahead.prepared c.number 0 (s + 1) above))
+    ∙ ap (λ ls. view_fields i c (s + 1) (accepted_block i c.number 0 (s + 1) n.past) (has (is_prepared_at i c.number 0 (s + 1)) (facts_of n.past)) ls)
+      (kept_next c.number 0 s (firsts ms) (all-firsts (IsAtMost (s + 1)) ms ahead.timely))
 
 view_delivered : (n : PastNode) (b : Block) (cert : Cert) → NothingAhead n
     → view_of n.setup n.id (Did (Delivered n.id b (proof_of.Bft cert)) None ∷ n.past) ≡ at_place (next_place (past_place n) b cert) (past_view n)
-unfolding place_of view_of
-view_delivered n b cert ahead = ?
+view_delivered n b cert ahead =
+    let su = n.setup in
+    let i = n.id in
+    higher_view su i n.past b (proof_of.Bft cert) ∙ sym (emptied n (config_of su i (facts_of n.past)) ahead) ∙ sym (raised_is su i n.past b cert) ∙ sym (at_next su i n.past b cert)
 
 pub seen_delivers : (b : Block) (cert : Cert) (n : PastNode) → NothingAhead n → core_of_past (past_delivers b cert n) ≡ core_delivers b cert (core_of_past n)
 seen_delivers b cert n ahead = ap₂ core_with (place_delivered n.setup n.id b cert (facts_of n.past)) (view_delivered n b cert ahead)
