@@ -243,15 +243,15 @@ view_accepted su i e v s b d past ise isv iss =
       (ap (λ e. eqb i i && eqb e c.number && eqb v 0 && eqb s (height i h)) ise ∙ ap (λ v. eqb i i && eqb c.number c.number && eqb v 0 && eqb s (height i h)) isv
        ∙ ap (λ s. eqb i i && eqb c.number c.number && eqb 0 0 && eqb s (height i h)) iss ∙ same_place_test i c.number 0 (height i h))
 
-config_here : (su : Setup) (i : ℕ) (past : Past) → (place_of su i (facts_of past)).config.number ≡ (config_of su i (facts_of past)).number
+pub config_here : (su : Setup) (i : ℕ) (past : Past) → (place_of su i (facts_of past)).config.number ≡ (config_of su i (facts_of past)).number
 unfolding place_of
 config_here su i past = refl
 
-height_here : (su : Setup) (i : ℕ) (past : Past) → (place_of su i (facts_of past)).height ≡ height i (facts_of past)
+pub height_here : (su : Setup) (i : ℕ) (past : Past) → (place_of su i (facts_of past)).height ≡ height i (facts_of past)
 unfolding place_of
 height_here su i past = refl
 
-view_here : (su : Setup) (i : ℕ) (past : Past) → (view_of su i past).view ≡ 0
+pub view_here : (su : Setup) (i : ℕ) (past : Past) → (view_of su i past).view ≡ 0
 unfolding view_of
 view_here su i past = refl
 
@@ -378,8 +378,3 @@ view_delivered n b cert ahead =
 
 pub seen_delivers : (b : Block) (cert : Cert) (n : PastNode) → NothingAhead n → core_of_past (past_delivers b cert n) ≡ core_delivers b cert (core_of_past n)
 seen_delivers b cert n ahead = ap₂ core_with (place_delivered n.setup n.id b cert (facts_of n.past)) (view_delivered n b cert ahead)
-
--- NOTHING AHEAD
-
-pub ahead_opens : (c : Config) (id : ℕ) → NothingAhead (past_opens c id)
-ahead_opens c id = record { accepted = λ e v s lt. refl; prepared = λ e v s lt. refl; timely = tt }
