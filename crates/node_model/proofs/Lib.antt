@@ -1,3 +1,4 @@
 pub mod AheadLemmas
 pub mod KeptLemmas
 pub mod PastLemmas
+pub mod StepLemmas
