@@ -21,6 +21,7 @@ use Rattle.world_model.specs.Texts.{fact_text, closing_line, genesis_text, tick_
 use Rattle.world_model.specs.Turns.{at_node, closing_of, deliver_turn, deliveries, delivery, delivery_to, event_turn, first_config, first_world, flush_turn, flushes, goes_on, most_entries, most_flushed, ordinary, refuses, says, some_world, submit_turn, submitted, then_on, tick_at, ticks, turn_in, turn_of, within_limit}
 use Rattle.world_model.specs.Cores.{core_setting}
 use Rattle.world_model.specs.Histories.{past_setting}
+use Rattle.world_model.specs.Seen.{seen, seen_if_any, seen_node}
 
 -- TURNS THAT DO THE SAME
 
@@ -57,12 +58,6 @@ Past = World PastNode History
 
 abbrev pub InPlace : Type 0
 InPlace = World Core (Unit {0})
-
-abbrev pub seen_node : Node PastNode → Node Core
-seen_node node = record { id = node.id; state = core_of_past node.state; pool = node.pool }
-
-abbrev pub seen : Past → InPlace
-seen w = record { nodes = map seen_node w.nodes; network = w.network; seals = w.seals; told = tt }
 
 abbrev pub IsAhead : Node PastNode → Type 0
 IsAhead node = NothingAhead node.state
@@ -258,10 +253,6 @@ turn_same number w (command_of.Deliver ranges) all = deliver_same number ranges 
 turn_same number w (command_of.Flush only) all = flush_same number only most_flushed 0 w all
 
 -- WHERE THERE MAY BE NO WORLD YET
-
-abbrev pub seen_if_any : Option Past → Option InPlace
-seen_if_any None = None
-seen_if_any (Some w) = Some (seen w)
 
 abbrev pub NoneAheadIfAny : Option Past → Type 0
 NoneAheadIfAny None = Unit {0}
