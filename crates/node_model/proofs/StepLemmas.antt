@@ -93,3 +93,9 @@ step_same keys n event ahead =
     let ruled = own_rule past_ways event begun in
     stepped_on ruled (own_rule core_ways event core_begun) (rounds past_ways keys 2 ruled) (rounds core_ways keys 2)
     (stepped_on begun core_begun ruled (own_rule core_ways event) (step_begins keys n event ahead) (step_own_rule event begun)) (step_rounds keys 2 ruled)
+
+pub next_same : (keys : Keys) (n : PastNode) (event : Event) → NothingAhead n → core_making (next past_ways keys n event) ≡ next core_ways keys (core_of_past n) event
+next_same keys n event ahead = (step_same keys n event ahead).same
+
+pub next_ahead : (keys : Keys) (n : PastNode) (event : Event) → NothingAhead n → NothingAhead (next past_ways keys n event).state
+next_ahead keys n event ahead = (step_same keys n event ahead).ahead
