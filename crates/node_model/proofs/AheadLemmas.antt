@@ -1,25 +1,21 @@
 -- Lemmas on a past with nothing ahead of its height: each way of going on keeps it so.
-use Rattle.std.proofs.Common.{◌≡◌, ℕ, suc, ◌+◌, ◌<◌, ◌≤◌, Bool, true, false, cond, not, ◌&&◌, ◌||◌, eqb, List, [], ◌∷◌, ◌++◌, filter, length, sym, ap, ◌∙◌, refl, subst, arith, Option, Some, None, le_trans}
-use Rattle.std.proofs.lemmas.Bool.{eq-eqb, ne_eqb}
+use Rattle.std.proofs.Common.{◌≡◌, ℕ, ◌+◌, ◌<◌, ◌≤◌, Bool, true, false, cond, not, ◌&&◌, ◌||◌, eqb, List, [], ◌∷◌, ◌++◌, filter, length, ap, ◌∙◌, refl, arith, Some, le_trans}
+use Rattle.std.proofs.lemmas.Bool.{eq-eqb}
 use Rattle.std.proofs.lemmas.Bool.Decides.{nat_tests}
 use Rattle.std.proofs.lemmas.List.{append-nil, length_push}
 use Rattle.std.specs.List.{AllByRecursion}
 use Rattle.ord_types.specs.Members.{is_in, is_raft}
-use Rattle.ord_types.specs.Hashes.{block_hash}
 use Rattle.ord_types.specs.declared.values.Block.{Block}
 use Rattle.ord_types.specs.declared.values.Cert.{Cert}
 use Rattle.ord_types.specs.declared.values.Config.{Config}
-use Rattle.ord_types.specs.declared.values.Proof.{Proof}
-use Rattle.ord_types.specs.declared.values.Proof.TheVariants as proof_of
-use Rattle.safety_model.specs.Facts.{History, has, is_accepted_at}
+use Rattle.safety_model.specs.Facts.{History, has}
 use Rattle.safety_model.specs.State.{Setup, config_of, delivered, height, is_inside}
-use Rattle.safety_model.specs.declared.fact.Fact.{Fact}
-use Rattle.safety_model.specs.declared.fact.Fact.TheVariants.{Accepted, Prepared, Delivered}
+use Rattle.safety_model.specs.declared.fact.Fact.TheVariants.{Prepared}
 use Rattle.signer_edge.specs.Accepts.{Accepts}
 use Rattle.node_model.specs.Letters.{Letter, Commit, config_in, view_in, number_in}
 use Rattle.node_model.specs.Answers.{is_near, is_signed}
 use Rattle.node_model.specs.Steps.{Event, Tick, FromMember}
-use Rattle.node_model.specs.Past.{Past, Came, Did, Signed, accepted_block, facts_of}
+use Rattle.node_model.specs.Past.{accepted_block, facts_of}
 use Rattle.node_model.specs.Keeping.{PastNode, is_prepared_at, is_timely, letter_of, own_commit, past_accepts, past_comes, past_delivers, past_opens, past_prepares, past_place, past_view, timely}
 use Rattle.node_model.specs.Seen.{IsAtMost, NothingAhead}
 use Rattle.node_model.proofs.PastLemmas.{height_here}
@@ -92,8 +88,8 @@ ahead_accepts b n ahead =
     let s0 = (past_place n).height in
     record {
       accepted = λ e v s lt.
-        let above : height i h < s = omega arith in
-        ap (λ t. cond t (Some b) (accepted_block i e v s n.past)) (other_number i e0 v0 s0 i e v s (omega arith)) ∙ ahead.accepted e v s above;
+          let above : height i h < s = omega arith in
+          ap (λ t. cond t (Some b) (accepted_block i e v s n.past)) (other_number i e0 v0 s0 i e v s (omega arith)) ∙ ahead.accepted e v s above;
       prepared = λ e v s lt. ahead.prepared e v s (omega arith);
       timely = weaker_all (height i h + 1) (length (delivered i h ++ []) + 1 + 1) (omega arith) (timely n.setup i n.past) ahead.timely;
     }
@@ -111,11 +107,11 @@ ahead_prepares d m accepts n ahead =
     record {
       accepted = λ e v s lt. ahead.accepted e v s (omega arith);
       prepared = λ e v s lt.
-        let above : height i h < s = omega arith in
-        ap (λ t. t || has (is_prepared_at i e v s) h) (other_number i e0 v0 s0 i e v s (omega arith)) ∙ ahead.prepared e v s above;
+          let above : height i h < s = omega arith in
+          ap (λ t. t || has (is_prepared_at i e v s) h) (other_number i e0 v0 s0 i e v s (omega arith)) ∙ ahead.prepared e v s above;
       timely =
-        letter_all n.setup i now accepts (own_commit i m) (timely n.setup i n.past)
-        (weaker_all (height i h + 1) (length (delivered i h ++ []) + 1 + 1) (omega arith) (timely n.setup i n.past) ahead.timely);
+          letter_all n.setup i now accepts (own_commit i m) (timely n.setup i n.past)
+          (weaker_all (height i h + 1) (length (delivered i h ++ []) + 1 + 1) (omega arith) (timely n.setup i n.past) ahead.timely);
     }
 
 pub ahead_delivers : (b : Block) (cert : Cert) (n : PastNode) → NothingAhead n → NothingAhead (past_delivers b cert n)

@@ -1,10 +1,10 @@
 -- Lemmas on a node's past: what each way of going on changes, against the state that is updated in place.
-use Rattle.std.proofs.Common.{◌≡◌, ℕ, suc, ◌+◌, ◌<◌, ◌≤◌, Bool, true, false, cond, not, ◌&&◌, ◌||◌, eqb, leb, ltb, is_none, List, [], ◌∷◌, ◌++◌, reverse, filter, length, sym, ap, ap₂, ◌∙◌, refl, subst, arith, Option, Some, None}
-use Rattle.std.proofs.lemmas.Bool.{eqb-true, eq-eqb, and_from, ne_eqb}
+use Rattle.std.proofs.Common.{◌≡◌, ℕ, ◌+◌, ◌<◌, Bool, true, false, cond, not, ◌&&◌, ◌||◌, eqb, leb, ltb, is_none, List, [], ◌∷◌, ◌++◌, reverse, filter, length, sym, ap, ap₂, ◌∙◌, refl, arith, Option, Some, None}
+use Rattle.std.proofs.lemmas.Bool.{eq-eqb, and_from, ne_eqb}
 use Rattle.std.proofs.lemmas.Slice.Eq.{bytes_eq-Decides}
 use Rattle.std.proofs.lemmas.Bool.Decides.{nat_tests}
 use Rattle.std.proofs.lemmas.List.{append-nil, length_push}
-use Rattle.std.specs.List.{list_any, AllByRecursion}
+use Rattle.std.specs.List.{list_any}
 use Rattle.std.specs.Str.{bytes_eq}
 use mathlib.Core.List.{reverse-cons}
 use Rattle.ord_types.specs.Members.{is_in, is_raft}
@@ -17,8 +17,7 @@ use Rattle.ord_types.specs.declared.values.Proof.{Proof}
 use Rattle.ord_types.specs.declared.values.Proof.TheVariants as proof_of
 use Rattle.safety_model.specs.Blocks.{Request, change_in, config_at}
 use Rattle.safety_model.specs.Facts.{History, has}
-use Rattle.safety_model.specs.State.{Setup, config_of, delivered, height, is_inside, last_delivered, block_or}
-use Rattle.safety_model.specs.declared.fact.Fact.{Fact}
+use Rattle.safety_model.specs.State.{Setup, config_of, delivered, height, last_delivered, block_or}
 use Rattle.safety_model.specs.declared.fact.Fact.TheVariants.{Accepted, Prepared, Delivered}
 use Rattle.signer_edge.specs.Accepts.{Accepts}
 use Rattle.bft_wire.specs.declared.reason.Reason.{Reason}
@@ -29,8 +28,8 @@ use Rattle.node_model.specs.Acts.{View}
 use Rattle.node_model.specs.Answers.{is_near, is_signed, first_reason, stands_outside, is_new, is_repeat, keep, kept_after, at_place, raised, fresh}
 use Rattle.node_model.specs.Steps.{Event, Tick, FromMember}
 use Rattle.node_model.specs.Cores.{Core, core_opens, core_comes, core_accepts, core_prepares, core_delivers, next_place}
-use Rattle.node_model.specs.Past.{Past, Opened, Came, Did, Signed, accepted_block, facts_of}
-use Rattle.node_model.specs.Keeping.{PastNode, firsts, is_of_view, is_prepared_at, is_timely, kept, own_commit, past_accepts, past_comes, past_delivers, past_opens, past_prepares, past_place, past_view, place_of, start_after, timely, view_of, cert_of_last}
+use Rattle.node_model.specs.Past.{Past, Came, Did, Signed, accepted_block, facts_of}
+use Rattle.node_model.specs.Keeping.{PastNode, firsts, is_of_view, is_prepared_at, is_timely, own_commit, past_accepts, past_comes, past_delivers, past_opens, past_prepares, past_place, past_view, place_of, start_after, timely, view_of, cert_of_last}
 use Rattle.node_model.specs.Seen.{core_of_past, IsAtMost, NothingAhead}
 use Rattle.node_model.proofs.KeptLemmas.{any-kept, all-firsts, kept_next}
 
@@ -92,8 +91,8 @@ timely_test su i h ms accepts place w letter stands =
     let sg = is_signed accepts letter.from letter.message in
     rw (stands.config_is, stands.height_is, stands.view_is, stands.left_is)
     (tests (is_in letter.from c.members) (is_raft c) (eqb (config_in letter.message) c.number) (eqb v 0) (leb 0 0) (ltb n s) (ltb (s + 1) n) sg
-     reason.NotMember reason.OtherConfig reason.OtherView reason.Leaving reason.OldNumber reason.FarNumber
-     ∙ ap₂ (λ a b. is_in letter.from c.members && not (is_raft c) && (eqb (config_in letter.message) c.number) && a && b && sg) (inside_test v) (near_test n s))
+    reason.NotMember reason.OtherConfig reason.OtherView reason.Leaving reason.OldNumber reason.FarNumber
+    ∙ ap₂ (λ a b. is_in letter.from c.members && not (is_raft c) && (eqb (config_in letter.message) c.number) && a && b && sg) (inside_test v) (near_test n s))
 
 new_test : (x sg rep t : Bool) → (x && sg) ≡ t → (x && sg && not rep) ≡ (t && not rep)
 new_test true true rep t is = ap (λ b. b && not rep) is
@@ -149,9 +148,9 @@ letter_kept su i h ms accepts place w l stands =
     let t = is_timely su i h accepts l in
     let rep = is_repeat w l in
     let new : is_new accepts place w l ≡ (t && not rep) =
-        new_test (is_none (first_reason (stands_outside place w l))) (is_signed accepts l.from l.message) rep t (timely_test su i h ms accepts place w l stands) in
+    new_test (is_none (first_reason (stands_outside place w l))) (is_signed accepts l.from l.message) rep t (timely_test su i h ms accepts place w l stands) in
     let taken : t ≡ true → list_any (same_slot l) ms ≡ rep =
-        λ is. sym (ap (λ ls. list_any (same_slot l) ls) stands.kept_is ∙ any-kept e 0 s l ms (timely_of_view su i h accepts l is)) in
+    λ is. sym (ap (λ ls. list_any (same_slot l) ls) stands.kept_is ∙ any-kept e 0 s l ms (timely_of_view su i h accepts l is)) in
     let more = by_test e s l ms t rep (timely_of_view su i h accepts l) taken in
     ap (λ b. cond b (keep l w) w) new ∙ kept_if (t && not rep) w l
     ∙ ap (λ ls. record w { kept = cond (t && not rep) (ls ++ l ∷ []) ls }) stands.kept_is
@@ -240,8 +239,8 @@ view_accepted su i e v s b d past ise isv iss =
     let now = Did (Accepted i e v s d) (Some b) ∷ past in
     view_by_blocks su i now (delivered i h) (append-nil (delivered i h))
     ∙ ap (λ t. record (view_of su i past) { accepted = cond t (Some b) (accepted_block i c.number 0 (height i h) past) })
-      (ap (λ e. eqb i i && eqb e c.number && eqb v 0 && eqb s (height i h)) ise ∙ ap (λ v. eqb i i && eqb c.number c.number && eqb v 0 && eqb s (height i h)) isv
-       ∙ ap (λ s. eqb i i && eqb c.number c.number && eqb 0 0 && eqb s (height i h)) iss ∙ same_place_test i c.number 0 (height i h))
+    (ap (λ e. eqb i i && eqb e c.number && eqb v 0 && eqb s (height i h)) ise ∙ ap (λ v. eqb i i && eqb c.number c.number && eqb v 0 && eqb s (height i h)) isv
+    ∙ ap (λ s. eqb i i && eqb c.number c.number && eqb 0 0 && eqb s (height i h)) iss ∙ same_place_test i c.number 0 (height i h))
 
 pub config_here : (su : Setup) (i : ℕ) (past : Past) → (place_of su i (facts_of past)).config.number ≡ (config_of su i (facts_of past)).number
 unfolding place_of
@@ -275,8 +274,8 @@ view_prepared su i e v s d past ise isv iss =
     let now = Did (Prepared i e v s d) None ∷ past in
     view_by_blocks su i now (delivered i h) (append-nil (delivered i h))
     ∙ ap (λ t. record (view_of su i past) { is_prepared = t || has (is_prepared_at i c.number 0 (height i h)) h })
-      (ap (λ e. eqb i i && eqb e c.number && eqb v 0 && eqb s (height i h)) ise ∙ ap (λ v. eqb i i && eqb c.number c.number && eqb v 0 && eqb s (height i h)) isv
-       ∙ ap (λ s. eqb i i && eqb c.number c.number && eqb 0 0 && eqb s (height i h)) iss ∙ same_place_test i c.number 0 (height i h))
+    (ap (λ e. eqb i i && eqb e c.number && eqb v 0 && eqb s (height i h)) ise ∙ ap (λ v. eqb i i && eqb c.number c.number && eqb v 0 && eqb s (height i h)) isv
+    ∙ ap (λ s. eqb i i && eqb c.number c.number && eqb 0 0 && eqb s (height i h)) iss ∙ same_place_test i c.number 0 (height i h))
 
 view_signed : (su : Setup) (i : ℕ) (past : Past) (accepts : Accepts) (m : Commit)
     → view_of su i (Signed m accepts ∷ past) ≡ kept_after accepts (place_of su i (facts_of past)) (view_of su i past) (own_commit i m)
@@ -294,7 +293,7 @@ seen_prepares d m accepts n =
     let done = view_prepared su i e v s d n.past (config_here su i n.past) (view_here su i n.past) (height_here su i n.past) in
     ap₂ core_with place
     (view_signed su i (Did (Prepared i e v s d) None ∷ n.past) accepts m ∙ ap₂ (λ p w. kept_after accepts p w (own_commit i m)) place done
-     ∙ ap (λ me. kept_after accepts (past_place n) (record (past_view n) { is_prepared = true }) (own_commit me m)) (sym (me_is su i n.past)))
+    ∙ ap (λ me. kept_after accepts (past_place n) (record (past_view n) { is_prepared = true }) (own_commit me m)) (sym (me_is su i n.past)))
 
 -- DELIVERING
 
@@ -359,7 +358,7 @@ higher_view su i past b p =
 emptied : (n : PastNode) (c : Config) → NothingAhead n
     → view_fields n.id c (height n.id (facts_of n.past) + 1) None false (filter (is_near (height n.id (facts_of n.past) + 1)) (held c.number (height n.id (facts_of n.past)) (timely n.setup n.id n.past)))
     ≡ view_fields n.id c (height n.id (facts_of n.past) + 1) (accepted_block n.id c.number 0 (height n.id (facts_of n.past) + 1) n.past)
-      (has (is_prepared_at n.id c.number 0 (height n.id (facts_of n.past) + 1)) (facts_of n.past)) (held c.number (height n.id (facts_of n.past) + 1) (timely n.setup n.id n.past))
+    (has (is_prepared_at n.id c.number 0 (height n.id (facts_of n.past) + 1)) (facts_of n.past)) (held c.number (height n.id (facts_of n.past) + 1) (timely n.setup n.id n.past))
 emptied n c ahead =
     let i = n.id in
     let s = height i (facts_of n.past) in
@@ -367,7 +366,7 @@ emptied n c ahead =
     let ms = timely n.setup i n.past in
     ap₂ (λ a p. view_fields i c (s + 1) a p (filter (is_near (s + 1)) (held c.number s ms))) (sym (ahead.accepted c.number 0 (s + 1) above)) (sym (ahead.prepared c.number 0 (s + 1) above))
     ∙ ap (λ ls. view_fields i c (s + 1) (accepted_block i c.number 0 (s + 1) n.past) (has (is_prepared_at i c.number 0 (s + 1)) (facts_of n.past)) ls)
-      (kept_next c.number 0 s (firsts ms) (all-firsts (IsAtMost (s + 1)) ms ahead.timely))
+    (kept_next c.number 0 s (firsts ms) (all-firsts (IsAtMost (s + 1)) ms ahead.timely))
 
 view_delivered : (n : PastNode) (b : Block) (cert : Cert) → NothingAhead n
     → view_of n.setup n.id (Did (Delivered n.id b (proof_of.Bft cert)) None ∷ n.past) ≡ at_place (next_place (past_place n) b cert) (past_view n)

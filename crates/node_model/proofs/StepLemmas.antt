@@ -1,11 +1,10 @@
 -- Lemmas on a step: from a past and in place it makes the same.
-use Rattle.std.proofs.Common.{◌≡◌, ℕ, zero, suc, List, [], ◌∷◌, ◌++◌, sym, ap, ◌∙◌, refl, subst, Option, Some, None}
+use Rattle.std.proofs.Common.{◌≡◌, ℕ, zero, suc, List, [], ◌∷◌, ◌++◌, ap, refl, subst, Option, Some, None}
 use Rattle.ord_types.specs.declared.values.Block.{Block}
 use Rattle.ord_types.specs.declared.values.Cert.{Cert}
 use Rattle.node_model.specs.Letters.{Message}
 use Rattle.node_model.specs.Acts.{proposed, acceptance_due, preparation_due, delivery_due}
 use Rattle.node_model.specs.Steps.{Event, Tick, FromMember, Keys, Making, accept_round, begins, commit_message, deliver_round, makes_accepted, makes_delivered, makes_prepared, next, own_rule, prepare_round, preprepare_message, propose_round, rounds, votes}
-use Rattle.ord_types.specs.declared.values.Sig.{Sig}
 use Rattle.signer_edge.specs.Statements.{commit_text}
 use Rattle.node_model.specs.Cores.{Core, core_ways}
 use Rattle.node_model.specs.Keeping.{PastNode, past_place, past_view, past_ways}

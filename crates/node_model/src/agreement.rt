@@ -13,5 +13,4 @@ pub fn steps_agree()
     ensures ahead_at_first { (c : Config) (id : ℕ) → NothingAhead (past_opens c id) }
     ensures steps { (keys : Keys) (n : PastNode) (event : Event) → NothingAhead n → core_making (next past_ways keys n event) ≡ next core_ways keys (core_of_past n) event }
     ensures ahead { (keys : Keys) (n : PastNode) (event : Event) → NothingAhead n → NothingAhead (next past_ways keys n event).state }
-{
-}
+{}

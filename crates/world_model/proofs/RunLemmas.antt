@@ -1,5 +1,5 @@
 -- Lemmas on runs that go through the same: they print the same and end the same.
-use Rattle.std.proofs.Common.{◌≡◌, ℕ, ◌+◌, Bool, true, false, cond, ltb, List, [], ◌∷◌, ◌++◌, map, length, sym, ap, ap₂, ◌∙◌, refl, subst, Option, None, Result, Ok, Err}
+use Rattle.std.proofs.Common.{◌≡◌, ℕ, ◌+◌, Bool, true, false, cond, ltb, List, [], ◌∷◌, ◌++◌, map, length, sym, ap, ap₂, refl, None, Result, Ok, Err}
 use Rattle.line_flow.specs.Lines.{lines}
 use Rattle.script.specs.declared.command.Command.{Command}
 use Rattle.script.specs.declared.command.Stop.TheVariants.{Malformed, NotBuilt}
@@ -74,7 +74,7 @@ worlds_same see Good turn core_turn same [] v number good = refl
 worlds_same see Good turn core_turn same (line ∷ more) v number good =
     ap (λ (rest : List _). see v ∷ rest)
     (after_same see Good (line_turn turn v number line).next (line_turn core_turn (see v) number line).next (λ next. worlds turn more next (number + 1)) (λ next. worlds core_turn more next (number + 1))
-     (line_same see Good turn core_turn same v number line good).next (λ next. worlds_same see Good turn core_turn same more next (number + 1)))
+    (line_same see Good turn core_turn same v number line good).next (λ next. worlds_same see Good turn core_turn same more next (number + 1)))
 
 -- the text of a script is the same in the model's world and in the world that is updated in place, and its run ends the same
 pub runs_agree : (script : List ℕ) → script_run (turn_of core_setting) (closing_of core_setting) None script ≡ run_of [] script

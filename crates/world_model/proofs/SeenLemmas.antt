@@ -1,5 +1,5 @@
 -- Lemmas on a world whose nodes are computed from their pasts, and the same world with states that are updated in place.
-use Rattle.std.proofs.Common.{◌≡◌, ℕ, zero, suc, ◌+◌, ◌-◌, Bool, true, false, cond, eqb, ltb, List, [], ◌∷◌, ◌++◌, map, length, take, position, slice_get, sym, ap, ap₂, ◌∙◌, refl, subst, Option, Some, None, Result, Ok, Err, codes}
+use Rattle.std.proofs.Common.{◌≡◌, ℕ, zero, suc, ◌+◌, ◌-◌, Bool, true, false, cond, eqb, ltb, List, [], ◌∷◌, ◌++◌, map, length, position, slice_get, ap, ap₂, ◌∙◌, refl, subst, Option, Some, None, Result, Ok, Err, codes}
 use Rattle.std.specs.List.{AllByRecursion, flat_map}
 use Rattle.script.specs.declared.command.Command.{Command}
 use Rattle.script.specs.declared.command.Command.TheVariants as command_of
@@ -11,11 +11,11 @@ use Rattle.safety_model.specs.Facts.{History}
 use Rattle.node_model.specs.Steps.{Event, Making}
 use Rattle.node_model.specs.Cores.{Core, core_opens, core_ways}
 use Rattle.node_model.specs.Keeping.{PastNode, past_opens, past_ways}
-use Rattle.node_model.specs.Seen.{core_making, core_of_past, NothingAhead}
+use Rattle.node_model.specs.Seen.{core_making, NothingAhead}
 use Rattle.node_model.proofs.AheadLemmas.{ahead_opens}
 use Rattle.node_model.proofs.PastLemmas.{seen_opens}
-use Rattle.node_model.proofs.StepLemmas.{Stepped, step_same}
-use Rattle.world_model.specs.Pools.{answer, pool_after}
+use Rattle.node_model.proofs.StepLemmas.{step_same}
+use Rattle.world_model.specs.Pools.{answer}
 use Rattle.world_model.specs.Worlds.{World, Node, Entry, entry, is_waiting, keys_of, letter_from, making, marked, node_after, node_at, tick_of, with_node, world_after}
 use Rattle.world_model.specs.Texts.{fact_text, closing_line, genesis_text, tick_text, deliver_text, flush_text, answer_text, refused_text, sent_text}
 use Rattle.world_model.specs.Turns.{at_node, closing_of, deliver_turn, deliveries, delivery, delivery_to, event_turn, first_config, first_world, flush_turn, flushes, goes_on, most_entries, most_flushed, ordinary, refuses, says, some_world, submit_turn, submitted, then_on, tick_at, ticks, turn_in, turn_of, within_limit}
@@ -114,7 +114,7 @@ within_same number blocks w ahead = limit_if (ltb most_entries (length w.network
 
 made_same : (number : ℕ) (w : Past) (node : Node PastNode) (m : Making PastNode) → NoneAhead w → NothingAhead m.state
     → Same (within_limit number (flat_map (fact_text number) m.facts) (world_after past_setting w node m))
-      (within_limit number (flat_map (fact_text number) m.facts) (world_after core_setting (seen w) (seen_node node) (core_making m)))
+    (within_limit number (flat_map (fact_text number) m.facts) (world_after core_setting (seen w) (seen_node node) (core_making m)))
 made_same number w node m all ahead =
     let blocks = flat_map (fact_text number) m.facts in
     let after = world_after past_setting w node m in
@@ -128,7 +128,7 @@ event_same number w node event all ahead =
     let m = making past_setting w node event in
     let step = step_same (keys_of w.seals node.id) node.state event ahead in
     subst (λ k. Same (within_limit number (flat_map (fact_text number) m.facts) (world_after past_setting w node m))
-      (within_limit number (flat_map (fact_text number) k.facts) (world_after core_setting (seen w) (seen_node node) k))) step.same (made_same number w node m all step.ahead)
+    (within_limit number (flat_map (fact_text number) k.facts) (world_after core_setting (seen w) (seen_node node) k))) step.same (made_same number w node m all step.ahead)
 
 -- TICK
 

@@ -1,5 +1,6 @@
 //! The world of a script, and its text.
 #![tactic(auto)]
+
 ghost use Rattle.std.specs.Prelude.{◌≡◌, ℕ, List, [], map, Option, None};
 ghost use Rattle.line_flow.specs.Lines.{lines};
 ghost use Rattle.script_play.specs.Runs.{script_run};
@@ -14,5 +15,4 @@ ghost use Rattle.world_model.specs.Seen.{seen_if_any};
 pub fn worlds_agree()
     ensures text { (script : List ℕ) → script_run (turn_of core_setting) (closing_of core_setting) None script ≡ run_of [] script }
     ensures worlds { (script : List ℕ) → worlds (turn_of core_setting) (lines script) None 1 ≡ map seen_if_any (worlds_of [] script) }
-{
-}
+{}
