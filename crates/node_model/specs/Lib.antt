@@ -6,4 +6,5 @@ pub mod Keeping
 pub mod Leading
 pub mod Letters
 pub mod Past
+pub mod Seen
 pub mod Steps

@@ -2,7 +2,9 @@
 #![tactic(auto)]
 
 mod act;
+mod agreement;
 mod letter;
 
 pub use act::Act;
+pub use agreement::steps_agree;
 pub use letter::Letter;

@@ -1,0 +1,4 @@
+pub mod AheadLemmas
+pub mod KeptLemmas
+pub mod PastLemmas
+pub mod StepLemmas

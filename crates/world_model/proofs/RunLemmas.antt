@@ -1,0 +1,85 @@
+-- Lemmas on runs that go through the same: they print the same and end the same.
+use Rattle.std.proofs.Common.{◌≡◌, ℕ, ◌+◌, Bool, true, false, cond, ltb, List, [], ◌∷◌, ◌++◌, map, length, sym, ap, ap₂, refl, None, Result, Ok, Err}
+use Rattle.line_flow.specs.Lines.{lines}
+use Rattle.script.specs.declared.command.Command.{Command}
+use Rattle.script.specs.declared.command.Stop.TheVariants.{Malformed, NotBuilt}
+use Rattle.script.specs.declared.command.Meaning.{Meaning}
+use Rattle.script.specs.declared.command.Meaning.TheVariants.{Nothing, Means, Wrong}
+use Rattle.script.specs.Grammar.{meaning}
+use Rattle.script_play.specs.declared.ending.Ending.{Ending}
+use Rattle.script_play.specs.declared.ending.Ending.TheVariants.{Done}
+use Rattle.script_play.specs.Turns.{Turn}
+use Rattle.script_play.specs.Runs.{Run, line_turn, limit_turn, max_line, max_lines, run, said, script_run, went}
+use Rattle.script_play.specs.Worlds.{worlds, worlds_after}
+use Rattle.world_model.specs.Turns.{closing_of, turn_of}
+use Rattle.world_model.specs.Cores.{core_setting}
+use Rattle.world_model.specs.Histories.{past_setting, run_of, worlds_of}
+use Rattle.world_model.specs.Seen.{seen_if_any}
+use Rattle.world_model.proofs.SeenLemmas.{NoneAheadIfAny, SameNext, SameTurn, closing_same, turn_of_same}
+
+-- each command does the same in two worlds, of which one is seen in the other
+abbrev SameTurns : {V W : Type 0} → (V → W) → (V → Type 0) → (V → ℕ → Command → Turn V) → (W → ℕ → Command → Turn W) → Type 0
+SameTurns {V} see Good turn core_turn = (v : V) (number : ℕ) (command : Command) → Good v → SameTurn see Good (turn v number command) (core_turn (see v) number command)
+
+said_same : {V W : Type 0} (see : V → W) (Good : V → Type 0) (turn : V → ℕ → Command → Turn V) (core_turn : W → ℕ → Command → Turn W) → SameTurns see Good turn core_turn
+    → (v : V) (number : ℕ) (m : Meaning) → Good v → SameTurn see Good (said turn v number m) (said core_turn (see v) number m)
+said_same see Good turn core_turn same v number Nothing good = record { printed = refl; next = (refl, good) }
+said_same see Good turn core_turn same v number (Means command) good = same v number command good
+said_same see Good turn core_turn same v number (Wrong (Malformed place)) good = record { printed = refl; next = refl }
+said_same see Good turn core_turn same v number (Wrong NotBuilt) good = record { printed = refl; next = refl }
+
+limit_same : {V W : Type 0} (see : V → W) (Good : V → Type 0) (number limit : ℕ) → SameTurn see Good (limit_turn number limit) (limit_turn number limit)
+limit_same see Good number limit = record { printed = refl; next = refl }
+
+either_same : {V W : Type 0} (see : V → W) (Good : V → Type 0) (b : Bool) (x y : Turn V) (z w : Turn W) → SameTurn see Good x z → SameTurn see Good y w → SameTurn see Good (cond b x y) (cond b z w)
+either_same see Good true x y z w p q = p
+either_same see Good false x y z w p q = q
+
+line_same : {V W : Type 0} (see : V → W) (Good : V → Type 0) (turn : V → ℕ → Command → Turn V) (core_turn : W → ℕ → Command → Turn W) → SameTurns see Good turn core_turn
+    → (v : V) (number : ℕ) (line : List ℕ) → Good v → SameTurn see Good (line_turn turn v number line) (line_turn core_turn (see v) number line)
+unfolding line_turn
+line_same see Good turn core_turn same v number line good =
+    let long = ltb max_line (length line) in
+    let last = said turn v number (meaning line) in
+    let core_last = said core_turn (see v) number (meaning line) in
+    either_same see Good (ltb max_lines number) (limit_turn number max_lines) (cond long (limit_turn number max_line) last) (limit_turn number max_lines) (cond long (limit_turn number max_line) core_last)
+    (limit_same see Good number max_lines)
+    (either_same see Good long (limit_turn number max_line) last (limit_turn number max_line) core_last (limit_same see Good number max_line) (said_same see Good turn core_turn same v number (meaning line) good))
+
+went_same : {V W : Type 0} (see : V → W) (Good : V → Type 0) (printed core_printed : List ℕ) (next : Result V Ending) (core_next : Result W Ending) (rest : V → Run) (core_rest : W → Run)
+    → printed ≡ core_printed → SameNext see Good next core_next → ((v : V) → Good v → rest v ≡ core_rest (see v)) → went printed next rest ≡ went core_printed core_next core_rest
+went_same see Good printed core_printed (Ok v) core_next rest core_rest same next more =
+    rw next.0 (ap₂ (λ (text : List ℕ) (r : Run). record { text = text ++ r.text; ending = r.ending }) same (more v next.1))
+went_same see Good printed core_printed (Err ending) core_next rest core_rest same next more = rw next (ap (λ (text : List ℕ). record { text = text; ending = ending }) same)
+
+run_same : {V W : Type 0} (see : V → W) (Good : V → Type 0) (turn : V → ℕ → Command → Turn V) (core_turn : W → ℕ → Command → Turn W) (closing : V → List ℕ) (core_closing : W → List ℕ)
+    → SameTurns see Good turn core_turn → ((v : V) → closing v ≡ core_closing (see v)) → (ls : List (List ℕ)) (v : V) (number : ℕ) → Good v → run turn closing ls v number ≡ run core_turn core_closing ls (see v) number
+unfolding run
+run_same see Good turn core_turn closing core_closing same closes [] v number good = ap (λ (text : List ℕ). record { text = text; ending = Done }) (closes v)
+run_same see Good turn core_turn closing core_closing same closes (line ∷ more) v number good =
+    let one = line_same see Good turn core_turn same v number line good in
+    went_same see Good (line_turn turn v number line).printed (line_turn core_turn (see v) number line).printed (line_turn turn v number line).next (line_turn core_turn (see v) number line).next
+    (λ next. run turn closing more next (number + 1)) (λ next. run core_turn core_closing more next (number + 1)) one.printed one.next
+    (λ next. run_same see Good turn core_turn closing core_closing same closes more next (number + 1))
+
+after_same : {V W : Type 0} (see : V → W) (Good : V → Type 0) (next : Result V Ending) (core_next : Result W Ending) (rest : V → List V) (core_rest : W → List W)
+    → SameNext see Good next core_next → ((v : V) → Good v → map see (rest v) ≡ core_rest (see v)) → map see (worlds_after next rest) ≡ worlds_after core_next core_rest
+after_same see Good (Ok v) core_next rest core_rest next more = rw next.0 (more v next.1)
+after_same see Good (Err ending) core_next rest core_rest next more = rw next refl
+
+worlds_same : {V W : Type 0} (see : V → W) (Good : V → Type 0) (turn : V → ℕ → Command → Turn V) (core_turn : W → ℕ → Command → Turn W) → SameTurns see Good turn core_turn
+    → (ls : List (List ℕ)) (v : V) (number : ℕ) → Good v → map see (worlds turn ls v number) ≡ worlds core_turn ls (see v) number
+unfolding worlds
+worlds_same see Good turn core_turn same [] v number good = refl
+worlds_same see Good turn core_turn same (line ∷ more) v number good =
+    ap (λ (rest : List _). see v ∷ rest)
+    (after_same see Good (line_turn turn v number line).next (line_turn core_turn (see v) number line).next (λ next. worlds turn more next (number + 1)) (λ next. worlds core_turn more next (number + 1))
+    (line_same see Good turn core_turn same v number line good).next (λ next. worlds_same see Good turn core_turn same more next (number + 1)))
+
+-- the text of a script is the same in the model's world and in the world that is updated in place, and its run ends the same
+pub runs_agree : (script : List ℕ) → script_run (turn_of core_setting) (closing_of core_setting) None script ≡ run_of [] script
+runs_agree script = sym (run_same seen_if_any NoneAheadIfAny (turn_of past_setting) (turn_of core_setting) (closing_of past_setting) (closing_of core_setting) turn_of_same closing_same (lines script) None 1 tt)
+
+-- and so are its worlds
+pub worlds_agree : (script : List ℕ) → worlds (turn_of core_setting) (lines script) None 1 ≡ map seen_if_any (worlds_of [] script)
+worlds_agree script = sym (worlds_same seen_if_any NoneAheadIfAny (turn_of past_setting) (turn_of core_setting) turn_of_same (lines script) None 1 tt)
