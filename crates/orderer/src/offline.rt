@@ -14,6 +14,7 @@ use std::alloc::Global;
 use world_run::Runner;
 
 /// Plays the script of a source. The answer is the exit status.
+#[tactic(auto, using(world_model::proofs::RunLemmas::runs_agree))]
 fn run_world<S: Source, K: Sink>(alloc: Global, source: &mut S, out: &mut K) -> u8
     ensures status { IsOwn result → IsSome (S.left source.old) → result ≡ status_of (run_of [] (told (S.left source.old))).ending }
     ensures whole { IsOwn result → IsSome (S.left source.old) → IsSome (K.content out.old) →
