@@ -1,0 +1,7 @@
+use Rattle.std.proofs.Common.{◌≡◌, ◌≤◌, take}
+use Rattle.ord_types.specs.Members.{how_many}
+use Rattle.node_model.specs.Acts.{has_prepare}
+use Rattle.view_core.proofs.counts.prepares.Given as goal
+
+abbrev pub invariant-loop-member : goal.invariant-loop-member
+invariant-loop-member l = (l.count ≡ how_many (has_prepare l.me l.number l.letters l.digest) (take l.member-index l.members)) × (l.count ≤ l.member-index)
