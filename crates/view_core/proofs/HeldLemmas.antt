@@ -172,6 +172,23 @@ held_at config members view height next kept h = record {
   distinct = distinct_filter (is_near next) kept h.distinct;
 }
 
+apart_front : (x : Letter) (ys zs : List Letter) → AllByRecursion (λ y. same_slot x y ≡ false) (ys ++ zs) → AllByRecursion (λ y. same_slot x y ≡ false) ys
+apart_front x [] zs h = tt
+apart_front x (y ∷ ys) zs h = (h.0, apart_front x ys zs h.1)
+
+distinct_front : (xs zs : List Letter) → IsDistinct same_slot (xs ++ zs) → IsDistinct same_slot xs
+unfolding IsDistinct
+distinct_front [] zs d = tt
+distinct_front (x ∷ xs) zs d = (apart_front x xs zs d.0, distinct_front xs zs d.1)
+
+-- the first of what is held
+pub held_front : (config : ℕ) (members : List ℕ) (view height : ℕ) (xs zs : List Letter) → IsHeld config members view height (xs ++ zs) → IsHeld config members view height xs
+held_front config members view height xs zs h = record {
+  few = h.few;
+  held = (and_parts _ _ (sym (list_all-append (is_held config members view height) xs zs) ∙ h.held)).0;
+  distinct = distinct_front xs zs h.distinct;
+}
+
 -- nothing is held
 pub held_none : (config : ℕ) (members : List ℕ) (view height : ℕ) → length members ≤ 31 → IsHeld config members view height []
 unfolding IsDistinct
