@@ -5,13 +5,8 @@ use Rattle.std.proofs.lemmas.Bool.{cases_Bool, and_parts, eqb-true}
 use Rattle.std.proofs.lemmas.Slice.Eq.{bytes_eq-Decides}
 use Rattle.ord_types.specs.declared.values.Place.{Place}
 use Rattle.node_model.specs.Acts.{View}
+use Rattle.view_core.specs.Places.{StandsAt}
 use Rattle.node_model.specs.Answers.{at_place, is_same_config, raised, fresh}
-
--- the view stands under the place's configuration, at its height
-pub record StandsAt (place : Place) (w : View) : Type 0 where
-  pub config : w.config ≡ place.config.number
-  pub members : w.members ≡ place.config.members
-  pub height : w.height ≡ place.height
 
 pub stands_at : (place : Place) (w : View) → StandsAt place (at_place place w)
 stands_at place w =

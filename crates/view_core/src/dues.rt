@@ -4,7 +4,7 @@ ghost use Rattle.node_model.specs.Leading.{leader};
 ghost use Rattle.node_model.specs.Acts.{acceptance_due, commits, delivery_due, is_inside_view, is_voting, preparation_due, quorum_of};
 ghost use Rattle.node_model.specs.Checks.{is_next_block};
 ghost use Rattle.node_model.specs.Answers.{at_place, fresh, raised};
-ghost use Rattle.view_core.specs.Places.{IsPlace};
+ghost use Rattle.view_core.specs.Places.{IsPlace, StandsAt};
 
 use crate::blocks::{is_acceptable, is_next_block};
 use crate::counts::{commit_count, commits, is_among, kept_proposal, prepares};
@@ -38,7 +38,8 @@ impl ViewState {
     /// Drops what belongs to another configuration, or to other numbers.
     pub(crate) fn settle(&mut self, place: &Place)
         requires { IsPlace place.now }
-        ensures { self.new ≡ at_place place.now self.old }
+        ensures at { self.new ≡ at_place place.now self.old }
+        ensures stands { StandsAt place.now self.new }
     {
         if self.config == place.config.number
             && self.members.as_slice() == place.config.members.as_slice()
