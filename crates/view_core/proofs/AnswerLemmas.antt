@@ -1,6 +1,6 @@
 -- The reasons that answers give.
-use Rattle.std.proofs.Common.{◌≡◌, ℕ, Bool, true, false, cond, List, [], ◌∷◌, ◌++◌, Option, Some, None, refl, sym, ap, ◌∙◌, ◌==◌, ◌+◌, ◌≤◌, ◌||◌, ◌⊎◌, inl, inr, arith, IsTrue, IfOk, OnOk, Result, Ok, Err}
-use Rattle.std.proofs.lemmas.Bool.{cases_Bool, cases_eq, or_left, or_right, or_parts, eq-eqb, not-false, not-true, ltb-false, and_from, and_parts}
+use Rattle.std.proofs.Common.{◌≡◌, ℕ, Bool, true, false, cond, List, [], ◌∷◌, ◌++◌, Option, Some, None, refl, sym, ap, ◌∙◌, ◌==◌, ◌+◌, ◌≤◌, ◌||◌, ◌⊎◌, inl, inr, arith, IsTrue, IfOk, OnOk, Result, Ok, Err, ◌&&◌, not, subst}
+use Rattle.std.proofs.lemmas.Bool.{cases_Bool, cases_eq, or_left, or_right, or_parts, eq-eqb, not-false, not-true, ltb-false, and_from, and_parts, and_right, not_from_true, not_from_false}
 use Rattle.bft_wire.specs.declared.message.Message.{Message}
 use Rattle.bft_wire.specs.declared.message.Message.TheVariants as message_of
 use Rattle.bft_wire.specs.declared.message.PrePrepare.{PrePrepare}
@@ -9,13 +9,13 @@ use Rattle.bft_wire.specs.declared.reason.Reason.TheVariants as reason
 use Rattle.ord_types.specs.declared.values.Place.{Place}
 use Rattle.signer_edge.specs.Accepts.{Accepts}
 use Rattle.node_model.specs.declared.letter.Letter.{Letter}
-use Rattle.std.specs.Prelude.{is_none}
+use Rattle.std.specs.Prelude.{is_none, unwrap_or}
 use Rattle.node_model.specs.declared.act.Act.{Act}
 use Rattle.node_model.specs.declared.act.Act.TheVariants as act_of
-use Rattle.node_model.specs.Acts.{View, due}
+use Rattle.node_model.specs.Acts.{View, due, preparation_due, prepare_act}
 use Rattle.node_model.specs.Letters.{config_in, number_in, view_in}
 use Rattle.ord_types.specs.Members.{is_in, is_raft}
-use Rattle.node_model.specs.Answers.{Reasons, act_or, after_act, first_reason, is_new, is_repeat, is_signed, keep, kept_after, message_reasons, proposal_reasons, reason_or, stands_outside, vote_answer}
+use Rattle.node_model.specs.Answers.{Reasons, accepts_nothing, act_or, after_act, after_told, first_reason, is_new, is_repeat, is_signed, keep, kept_after, kept_or, message_reasons, prepare_answer, proposal_reasons, reason_or, stands_outside, vote_answer}
 use Rattle.view_core.specs.Held.{is_held}
 use Rattle.view_core.specs.Places.{StandsAt}
 
@@ -98,3 +98,45 @@ kept_old accepts place w letter h = rw h refl
 pub answered : {E : Type 0} (r : Result Act E) (answer : Act) (new w : View) → IfOk r (λ act. act ≡ answer) → IfOk r (λ act. new ≡ after_act act w) → OnOk r (new ≡ after_act answer w)
 answered (Ok act) answer new w is after = after ∙ ap (λ (a : Act). after_act a w) is
 answered (Err e) answer new w is after = tt
+
+-- why a message isn't kept
+pub outside_answer : (accepts : Accepts) (place : Place) (w : View) (letter : Letter) (r : Reason) → Some r ≡ first_reason (stands_outside place w letter) → act_of.Nothing r ≡ kept_or (is_new accepts place w letter) (first_reason (stands_outside place w letter)) reason.Repeat
+outside_answer accepts place w letter r h = subst (λ (o : Option Reason). act_of.Nothing r ≡ kept_or (is_none o && is_signed accepts letter.from letter.message && not (is_repeat w letter)) o reason.Repeat) h refl
+
+pub not_new_outside : (accepts : Accepts) (place : Place) (w : View) (letter : Letter) (r : Reason) → Some r ≡ first_reason (stands_outside place w letter) → is_new accepts place w letter ≡ false
+not_new_outside accepts place w letter r h = subst (λ (o : Option Reason). (is_none o && is_signed accepts letter.from letter.message && not (is_repeat w letter)) ≡ false) h refl
+
+pub not_new_repeat : (accepts : Accepts) (place : Place) (w : View) (letter : Letter) → is_repeat w letter ≡ true → is_new accepts place w letter ≡ false
+not_new_repeat accepts place w letter h = and_right _ _ (not_from_true (is_repeat w letter) h)
+
+pub repeat_answer : (accepts : Accepts) (place : Place) (w : View) (letter : Letter) → None ≡ first_reason (stands_outside place w letter) → is_repeat w letter ≡ true → act_of.Nothing reason.Repeat ≡ kept_or (is_new accepts place w letter) (first_reason (stands_outside place w letter)) reason.Repeat
+repeat_answer accepts place w letter inside h =
+    ap (λ (o : Option Reason). reason_or o reason.Repeat) inside ∙ ap (λ (b : Bool). kept_or b (first_reason (stands_outside place w letter)) reason.Repeat) (sym (not_new_repeat accepts place w letter h))
+
+pub new_from : (accepts : Accepts) (place : Place) (w : View) (letter : Letter) → None ≡ first_reason (stands_outside place w letter) → is_signed accepts letter.from letter.message ≡ true → is_repeat w letter ≡ false → is_new accepts place w letter ≡ true
+new_from accepts place w letter inside signed fresh = and_from _ _ (and_from _ _ (ap is_none (sym inside)) signed) (not_from_false _ fresh)
+
+pub new_answer : (accepts : Accepts) (place : Place) (w : View) (letter : Letter) → is_new accepts place w letter ≡ true → act_of.Kept ≡ kept_or (is_new accepts place w letter) (first_reason (stands_outside place w letter)) reason.Repeat
+new_answer accepts place w letter h = ap (λ (b : Bool). kept_or b (first_reason (stands_outside place w letter)) reason.Repeat) (sym h)
+
+-- a Prepare
+after_told_kept : (o : Option Act) (b : Bool) (r : Option Reason) (last : Reason) (w : View) → after_told o w ≡ after_act (act_or o (kept_or b r last)) w
+after_told_kept (Some act) b r last w = refl
+after_told_kept None true r last w = refl
+after_told_kept None false (Some r) last w = refl
+after_told_kept None false None last w = refl
+
+pub prepare_is : (place : Place) (w kept : View) (letter : Letter) (other act : Act) → other ≡ kept_or (is_new accepts_nothing place w letter) (first_reason (stands_outside place w letter)) reason.Repeat → kept ≡ kept_after accepts_nothing place w letter → act ≡ act_or (prepare_act (preparation_due place kept)) other → act ≡ prepare_answer place w letter
+prepare_is place w kept letter other act is left told =
+    told ∙ ap (act_or (prepare_act (preparation_due place kept))) is ∙ ap (λ (k : View). act_or (prepare_act (preparation_due place k)) (kept_or (is_new accepts_nothing place w letter) (first_reason (stands_outside place w letter)) reason.Repeat)) left
+
+pub prepare_leaves : (place : Place) (w kept new : View) (letter : Letter) → kept ≡ kept_after accepts_nothing place w letter → new ≡ after_told (prepare_act (preparation_due place kept)) kept → new ≡ after_act (prepare_answer place w letter) (kept_after accepts_nothing place w letter)
+prepare_leaves place w kept new letter left told =
+    told ∙ ap (λ (k : View). after_told (prepare_act (preparation_due place k)) k) left
+    ∙ after_told_kept (prepare_act (preparation_due place (kept_after accepts_nothing place w letter))) (is_new accepts_nothing place w letter) (first_reason (stands_outside place w letter)) reason.Repeat (kept_after accepts_nothing place w letter)
+
+-- what the node itself is refused
+pub reason_is : (o : Option Reason) (last : Reason) → act_of.Nothing (unwrap_or o last) ≡ reason_or o last
+reason_is None last = refl
+reason_is (Some r) last = refl
+

@@ -267,7 +267,6 @@ impl ViewState {
     }
 
     /// Keeps a Prepare, or answers why not, in a view that stands at the place.
-    #[tactic(none)]
     fn keep_prepare(&mut self, place: &Place, from: u32, message: &Prepare) -> Act
         requires place { IsPlace place.now }
         requires stands { StandsAt place.now self.old }
@@ -347,7 +346,6 @@ impl ViewState {
     }
 
     /// Proposes in a view that stands at the place.
-    #[tactic(none)]
     fn placed_proposal(&mut self, place: &Place, offer: List<Request>) -> Result<Act, NoMemory>
         requires { IsPlace place.now }
         ensures answer { IfOk result (λ act. act ≡ propose_answer place.now self.old offer) }
