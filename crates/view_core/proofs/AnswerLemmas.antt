@@ -23,8 +23,8 @@ pub first_reason_append : (rs ss : Reasons) → first_reason rs ≡ None → fir
 first_reason_append [] ss h = refl
 first_reason_append (r ∷ rs) ss h =
     elim (cases_Bool r.0) [
-      inl e ↦ absurd (let clash : Some r.1 ≡ None = rw e at h in cc)
-    | inr e ↦ rw e (first_reason_append rs ss (rw e at h))
+      | inl e ↦ absurd (let clash : Some r.1 ≡ None = rw e at h in cc)
+      | inr e ↦ rw e (first_reason_append rs ss (rw e at h))
     ]
 
 -- a proposal at the height, which is neither new nor from outside
@@ -44,15 +44,15 @@ all_hold : (rs : Reasons) → first_reason rs ≡ None → AllHold rs
 all_hold [] h = tt
 all_hold (r ∷ rs) h =
     elim (cases_Bool r.0) [
-      inl e ↦ absurd (let clash : Some r.1 ≡ None = rw e at h in cc)
-    | inr e ↦ (e, all_hold rs (rw e at h))
+      | inl e ↦ absurd (let clash : Some r.1 ≡ None = rw e at h in cc)
+      | inr e ↦ (e, all_hold rs (rw e at h))
     ]
 
 near_from : (height n : ℕ) → height ≤ n → n ≤ height + 1 → ((n == height) || (n == height + 1)) ≡ true
 near_from height n low high =
     elim (cases_eq n height) [
-      inl e ↦ or_left _ _ (eq-eqb _ _ e)
-    | inr e ↦ or_right _ _ (eq-eqb n (height + 1) (omega arith))
+      | inl e ↦ or_left _ _ (eq-eqb _ _ e)
+      | inr e ↦ or_right _ _ (eq-eqb n (height + 1) (omega arith))
     ]
 
 -- a message that isn't from outside may be held by a view that stands at the place
@@ -139,4 +139,3 @@ prepare_leaves place w kept new letter left told =
 pub reason_is : (o : Option Reason) (last : Reason) → act_of.Nothing (unwrap_or o last) ≡ reason_or o last
 reason_is None last = refl
 reason_is (Some r) last = refl
-

@@ -27,21 +27,21 @@ place_below : (id : ℕ) (ms : List ℕ) → is_in id ms ≡ true → place id m
 place_below id [] h = grind arith
 place_below id (m ∷ ms) h =
     elim (cases_Bool (m == id)) [
-      inl e ↦ rw e (omega arith)
-    | inr e ↦ (let r = place_below id ms (rw e at h) in rw e (omega arith))
+      | inl e ↦ rw e (omega arith)
+      | inr e ↦ (let r = place_below id ms (rw e at h) in rw e (omega arith))
     ]
 
 same_place : (a b : ℕ) (ms : List ℕ) → is_in a ms ≡ true → is_in b ms ≡ true → place a ms ≡ place b ms → a ≡ b
 same_place a b [] h k e = grind arith
 same_place a b (m ∷ ms) h k e =
     elim (cases_Bool (m == a)) [
-      inl p ↦ elim (cases_Bool (m == b)) [
-        inl q ↦ sym (eqb-true m a p) ∙ eqb-true m b q
-      | inr q ↦ absurd (omega (arith, rw (p, q) at e))
+      | inl p ↦ elim (cases_Bool (m == b)) [
+        | inl q ↦ sym (eqb-true m a p) ∙ eqb-true m b q
+        | inr q ↦ absurd (omega (arith, rw (p, q) at e))
       ]
-    | inr p ↦ elim (cases_Bool (m == b)) [
-        inl q ↦ absurd (omega (arith, rw (p, q) at e))
-      | inr q ↦ (let f : place a ms ≡ place b ms = omega (arith, rw (p, q) at e) in same_place a b ms (rw p at h) (rw q at k) f)
+      | inr p ↦ elim (cases_Bool (m == b)) [
+        | inl q ↦ absurd (omega (arith, rw (p, q) at e))
+        | inr q ↦ (let f : place a ms ≡ place b ms = omega (arith, rw (p, q) at e) in same_place a b ms (rw p at h) (rw q at k) f)
       ]
     ]
 
@@ -98,9 +98,10 @@ same_slot_of config members view height x y h i e =
 apart_slots : (config : ℕ) (members : List ℕ) (view height : ℕ) (x : Letter) (ys : List Letter) → is_held config members view height x ≡ true → list_all (is_held config members view height) ys ≡ true → AllByRecursion (λ y. same_slot x y ≡ false) ys → AllByRecursion (λ n. (slot members height x == n) ≡ false) (map (slot members height) ys)
 apart_slots config members view height x [] h all apart = tt
 apart_slots config members view height x (y ∷ ys) h all apart =
-    let both = and_parts _ _ all in
-    (ne_eqb _ _ (λ e. both_ways _ apart.0 (same_slot_of config members view height x y h both.0 e)),
-     apart_slots config members view height x ys h both.1 apart.1)
+    let both = and_parts _ _ all in (
+      ne_eqb _ _ (λ e. both_ways _ apart.0 (same_slot_of config members view height x y h both.0 e)),
+      apart_slots config members view height x ys h both.1 apart.1,
+    )
 
 distinct_slots : (config : ℕ) (members : List ℕ) (view height : ℕ) (xs : List Letter) → list_all (is_held config members view height) xs ≡ true → IsDistinct same_slot xs → IsDistinct (λ m n. m == n) (map (slot members height) xs)
 unfolding IsDistinct
@@ -114,8 +115,8 @@ slots_below config members view height [] few all q h = grind arith
 slots_below config members view height (x ∷ xs) few all q h =
     let both = and_parts _ _ all in
     elim (or_cases _ _ h) [
-      inl e ↦ (let eq = eqb-true q (slot members height x) e in let lt = slot_below config members view height x few both.0 in omega arith)
-    | inr e ↦ slots_below config members view height xs few both.1 q e
+      | inl e ↦ (let eq = eqb-true q (slot members height x) e in let lt = slot_below config members view height x few both.0 in omega arith)
+      | inr e ↦ slots_below config members view height xs few both.1 q e
     ]
 
 length_map : {A B : Type 0} (f : A → B) (xs : List A) → length (map f xs) ≡ length xs
@@ -160,8 +161,8 @@ held_filter config members view height next (x ∷ xs) h =
     let both = and_parts _ _ h in
     let rest = held_filter config members view height next xs both.1 in
     elim (cases_Bool (is_near next x)) [
-      inl e ↦ rw e (and_from _ _ (and_from _ _ (and_parts _ _ both.0).0 e) rest)
-    | inr e ↦ rw e rest
+      | inl e ↦ rw e (and_from _ _ (and_from _ _ (and_parts _ _ both.0).0 e) rest)
+      | inr e ↦ rw e rest
     ]
 
 -- what is held, of the numbers of another height

@@ -11,13 +11,13 @@ use Rattle.node_model.specs.Answers.{at_place, is_same_config, raised, fresh}
 pub stands_at : (place : Place) (w : View) → StandsAt place (at_place place w)
 stands_at place w =
     elim (cases_Bool (is_same_config place w)) [
-      inr e ↦ rw e (record { config = refl; members = refl; height = refl })
-    | inl e ↦
-        let both = and_parts _ _ e in
-        let config = eqb-true w.config place.config.number both.0 in
-        let members = (bytes_eq-Decides w.members place.config.members).0 both.1 in
-        elim (cases_Bool (w.height == place.height)) [
-          inl h ↦ rw (e, h) (record { config = config; members = members; height = eqb-true _ _ h })
-        | inr h ↦ rw (e, h) (record { config = config; members = members; height = refl })
-        ]
+      | inr e ↦ rw e (record { config = refl; members = refl; height = refl })
+      | inl e ↦
+          let both = and_parts _ _ e in
+          let config = eqb-true w.config place.config.number both.0 in
+          let members = (bytes_eq-Decides w.members place.config.members).0 both.1 in
+          elim (cases_Bool (w.height == place.height)) [
+            | inl h ↦ rw (e, h) (record { config = config; members = members; height = eqb-true _ _ h })
+            | inr h ↦ rw (e, h) (record { config = config; members = members; height = refl })
+          ]
     ]

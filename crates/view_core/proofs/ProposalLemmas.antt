@@ -20,8 +20,8 @@ first_reason_stays : (rs ss : Reasons) (x : Reason) → Some x ≡ first_reason 
 first_reason_stays [] ss x h = cc
 first_reason_stays (r ∷ rs) ss x h =
     elim (cases_Bool r.0) [
-      inl e ↦ rw e (sym (rw e at h))
-    | inr e ↦ rw e (first_reason_stays rs ss x (rw e at h))
+      | inl e ↦ rw e (sym (rw e at h))
+      | inr e ↦ rw e (first_reason_stays rs ss x (rw e at h))
     ]
 
 -- why the node may not propose, by the tests alone

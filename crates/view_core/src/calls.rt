@@ -191,7 +191,6 @@ impl ViewState {
     }
 
     /// What a vote message brings to a view that stands at the place.
-    #[tactic(none)]
     fn placed_vote<V: Verifier>(
         &mut self,
         place: &Place,
@@ -212,7 +211,6 @@ impl ViewState {
     }
 
     /// What a vote message brings.
-    #[tactic(none)]
     fn vote<V: Verifier>(
         &mut self,
         place: &Place,
@@ -230,7 +228,6 @@ impl ViewState {
 
     /// A proposal has come. The answer is the act that is due then, `Kept`, or the first reason that
     /// holds. Without memory the view is at the place, and the message is not kept.
-    #[tactic(none)]
     pub fn on_preprepare<V: Verifier>(
         &mut self,
         place: &Place,
@@ -249,7 +246,6 @@ impl ViewState {
 
     /// A Commit has come; the node hands in its own with itself as the sender. The answers are those of
     /// `on_preprepare`.
-    #[tactic(none)]
     pub fn on_commit<V: Verifier>(
         &mut self,
         place: &Place,
@@ -302,7 +298,6 @@ impl ViewState {
 
     /// A Prepare has come. The answer is that the accepted block is prepared, `Kept`, or the first reason
     /// that holds. It takes no memory.
-    #[tactic(none)]
     pub fn on_prepare(&mut self, place: &Place, from: u32, message: &Prepare) -> Act
         requires { IsPlace place.now }
         ensures answer { result ≡ prepare_answer place.now (at_place place.now self.old) (record { from = from; message = message_of.Prepare message.now }) }
@@ -369,7 +364,6 @@ impl ViewState {
 
     /// Proposes a block of these requests. The answer is that it is accepted, or the first reason that
     /// holds. Without memory the view is at the place.
-    #[tactic(none)]
     pub fn propose<V: Verifier>(
         &mut self,
         place: &Place,
@@ -387,7 +381,6 @@ impl ViewState {
 
     /// What is due now: the first of accept, prepare and deliver, or the first reason that holds. Without
     /// memory the view is at the place.
-    #[tactic(none)]
     pub fn due<V: Verifier>(&mut self, place: &Place, verifier: &V) -> Result<Act, NoMemory>
         requires { IsPlace place.now }
         ensures answer { IfOk result (λ act. act ≡ due_answer (V.accepts verifier.now) place.now (at_place place.now self.old)) }
