@@ -1,5 +1,5 @@
 //! What a proposed block and the certificate that comes with it must be.
-ghost use Rattle.std.specs.Prelude.{◌≡◌, ◌+◌, ◌<◌, ◌≤◌, ◌^◌, option_copied, length};
+ghost use Rattle.std.specs.Prelude.{◌≡◌};
 ghost use Rattle.std.specs.Str.{bytes_eq};
 ghost use Rattle.node_model.specs.Checks.{
   is_block_of_view,

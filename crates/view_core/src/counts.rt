@@ -1,8 +1,8 @@
 //! Votes for a digest, counted over the members.
-ghost use Rattle.std.specs.Prelude.{◌≡◌, ℕ, ◌<◌, ◌≤◌, ◌^◌, ◌==◌, ◌&&◌, filter_map, length, nat_le, option_copied, Option, IfOk};
+ghost use Rattle.std.specs.Prelude.{◌≡◌, filter_map, length, option_copied, IfOk};
 ghost use Rattle.std.specs.List.{list_any};
 ghost use Rattle.ord_types.specs.Members.{how_many, is_in};
-ghost use Rattle.node_model.specs.Letters.{is_commit_for, is_prepare_for, proposal_in};
+ghost use Rattle.node_model.specs.Letters.{is_prepare_for};
 ghost use Rattle.node_model.specs.Acts.{
   has_prepare,
   is_members_prepare,

@@ -1,5 +1,5 @@
 //! The block that a leader proposes.
-ghost use Rattle.std.specs.Prelude.{◌≡◌, IfOk, Some, None, if◌then◌else◌};
+ghost use Rattle.std.specs.Prelude.{◌≡◌, IfOk, if◌then◌else◌};
 ghost use Rattle.node_model.specs.Acts.{carried_cert, proposal};
 ghost use Rattle.node_model.specs.Checks.{is_next_block, signers_carried};
 ghost use Rattle.node_model.specs.Leading.{next_meta};
