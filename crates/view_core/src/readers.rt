@@ -23,7 +23,7 @@ impl ViewState {
         self.left
     }
 
-    /// Whether it would propose an offer that makes a block.
+    /// Whether it would propose an offer that makes a block, where the view is at the place.
     pub fn may_propose(&self, place: &Place) -> bool
         requires { IsPlace place.now }
         ensures { result ≡ may_propose place.now self.now }
@@ -31,8 +31,8 @@ impl ViewState {
         self.may_vote(place) && leader(place, self.view) == self.me && self.accepted.is_none()
     }
 
-    /// Goes to the place: what belongs to another configuration, or to other numbers, is dropped. Every
-    /// other call that takes a place does so first.
+    /// Goes to the place: what belongs to another configuration, or to other numbers, is dropped. The
+    /// calls that take a message or an offer, and `due`, do so first.
     pub fn go_to(&mut self, place: &Place)
         requires { IsPlace place.now }
         ensures { self.new ≡ at_place place.now self.old }
