@@ -1,0 +1,11 @@
+pub mod Moments
+pub mod Quorums
+pub mod FactTests
+pub mod RuleFacts
+pub mod OneView
+pub mod StateFacts
+pub mod Deliveries
+pub mod Chains
+pub mod Texts
+pub mod Agreeing
+pub mod Histories

@@ -1,6 +1,7 @@
 pub mod Blocks
 pub mod Facts
 pub mod Log
+pub mod Queries
 pub mod Rules
 pub mod Safety
 pub mod State

@@ -1,5 +1,5 @@
 -- When a fact is allowed after others. The numbers are those of the table of rules in docs/MODEL.md.
-use Rattle.std.specs.Prelude.{ℕ, ◌+◌, Bool, false, ◌&&◌, ◌||◌, ◌==◌, nat_le, not, ◌≤◌, List, [], ◌∷◌, length, Option, Some, None, IsTrue, if◌then◌else◌, ⊤}
+use Rattle.std.specs.Prelude.{ℕ, ◌+◌, Bool, false, ◌&&◌, ◌||◌, ◌==◌, nat_le, not, ◌≤◌, List, [], ◌∷◌, ◌++◌, length, Option, Some, None, IsTrue, if◌then◌else◌, ⊤}
 use Rattle.std.specs.List.{list_all, AllByRecursion}
 use Rattle.ord_types.specs.Members.{fault_bound, how_many, how_many_in, is_in, is_raft, quorum}
 use Rattle.ord_types.specs.Hashes.{block_hash}
@@ -51,24 +51,22 @@ is_correct su c i = is_raft c || not (is_in i su.byzantine)
 abbrev pub keeps_bound : Setup → Config → Bool
 keeps_bound su c = is_raft c || nat_le (faulty su.byzantine c) (bound_of c)
 
+-- the tests that acceptances and preparations share, each with the number of its rule
+abbrev pub vote_tests : Setup → History → Config → ℕ → ℕ → ℕ → ℕ → List (ℕ × Bool)
+vote_tests su h c i e v s =
+    (1, is_correct su c i) ∷
+    (2, keeps_bound su c) ∷
+    (3, is_in i c.members) ∷
+    (4, not (is_raft c) && (c.number == e)) ∷
+    (5, s == height i h) ∷
+    (6, is_inside i e v h) ∷ []
+
 -- the tests of a fact of a node under configuration c, each with the number of its rule
 abbrev pub tests_under : Setup → History → Config → Fact → List (ℕ × Bool)
 tests_under su h c (Accepted i e v s d) =
-    (1, is_correct su c i) ∷
-    (2, keeps_bound su c) ∷
-    (3, is_in i c.members) ∷
-    (4, not (is_raft c) && (c.number == e)) ∷
-    (5, s == height i h) ∷
-    (6, is_inside i e v h) ∷
-    (7, not (has (is_accepted_at i e v s) h)) ∷ []
+    vote_tests su h c i e v s ++ (7, not (has (is_accepted_at i e v s) h)) ∷ []
 tests_under su h c (Prepared i e v s d) =
-    (1, is_correct su c i) ∷
-    (2, keeps_bound su c) ∷
-    (3, is_in i c.members) ∷
-    (4, not (is_raft c) && (c.number == e)) ∷
-    (5, s == height i h) ∷
-    (6, is_inside i e v h) ∷
-    (9, has (is_accepted i e v s d) h && is_backed su h c e v s d) ∷ []
+    vote_tests su h c i e v s ++ (9, has (is_accepted i e v s d) h && is_backed su h c e v s d) ∷ []
 tests_under su h c (Delivered i b proof) =
     (1, is_correct su c i) ∷
     (2, keeps_bound su c) ∷

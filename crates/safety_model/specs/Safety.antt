@@ -1,13 +1,13 @@
 -- What holds of every run.
 use Rattle.std.specs.Prelude.{◌≡◌, ℕ, ◌≤◌, ◌<◌, ◌-◌, ◌^◌, take, slice_get, Some, IsTrue, false, List, [], ◌∷◌, ◌++◌, ◌⊎◌, ⊤}
-use Rattle.std.specs.List.{AllByRecursion}
+use Rattle.std.specs.List.{All}
 use Rattle.sha2.specs.Sha256.{sha256}
 use Rattle.ord_types.specs.Genesis.{genesis_block}
 use Rattle.ord_types.specs.Hashes.{block_hash}
 use Rattle.ord_types.specs.Members.{is_raft}
 use Rattle.ord_types.specs.Spelling.{header_text, meta_text, requests_text}
 use Rattle.safety_model.specs.Blocks.{Block, Config, Request, change_in, config_at, config_or, follows_block, is_lawful}
-use Rattle.safety_model.specs.Facts.{Proof, History, Stands}
+use Rattle.safety_model.specs.Facts.{Fact, Proof, History, Stands}
 use Rattle.safety_model.specs.declared.fact.Fact.TheVariants.{Delivered}
 use Rattle.safety_model.specs.Rules.{IsRun, is_bft_proof}
 use Rattle.safety_model.specs.State.{Setup, delivered, height, ledger}
@@ -39,11 +39,15 @@ pub record RequestFits (r : Request) : Type 0 where
 pub record Fits (b : Block) : Type 0 where
   pub view : b.meta.view < 2 ^ 64
   pub decided : b.meta.decided < 2 ^ 64
-  pub blacklist : AllByRecursion (λ id. id < 2 ^ 32) b.meta.blacklist
-  pub signers : AllByRecursion (λ id. id < 2 ^ 32) b.meta.signers
-  pub requests : AllByRecursion RequestFits b.requests
+  pub blacklist : All (λ id. id < 2 ^ 32) b.meta.blacklist
+  pub signers : All (λ id. id < 2 ^ 32) b.meta.signers
+  pub requests : All RequestFits b.requests
 
--- each delivered block is one of the widths of its spelling
+-- the block of a fact, if it has one, fits
+abbrev pub FactFits : Fact → Type 0
+FactFits f = (i : ℕ) (b : Block) (proof : Proof) → f ≡ Delivered i b proof → Fits b
+
+-- each delivered block fits
 abbrev pub AllFit : History → Type 0
 AllFit h = (i : ℕ) (b : Block) (proof : Proof) → Stands h (Delivered i b proof) → Fits b
 
@@ -55,9 +59,10 @@ abbrev pub AreLinked : Block → List Block → Type 0
 AreLinked a [] = ⊤
 AreLinked a (b ∷ bs) = IsTrue (follows_block a b) × AreLinked b bs
 
-abbrev pub IsChain : List Block → Type 0
-IsChain [] = ⊤
-IsChain (b ∷ bs) = AreLinked b bs
+-- a chain: the genesis block of the first configuration, and each block next after the one before it
+abbrev pub IsChain : Config → List Block → Type 0
+IsChain c [] = ⊥
+IsChain c (b ∷ bs) = (b ≡ genesis_block c) × AreLinked b bs
 
 -- each block is lawful under the configuration in force at its number
 abbrev pub AreLawful : Config → List Block → Type 0
@@ -77,7 +82,7 @@ pub record IsProvedAt (su : Setup) (h : History) (i s : ℕ) : Type 0 where
 -- the ledgers of all nodes are prefixes of one chain, whose blocks above 0 are lawful and proved
 pub record Agreement (su : Setup) (h : History) : Type 0 where
   pub prefixes : (i j : ℕ) → height i h ≤ height j h → IsPrefixOf (ledger su i h) (ledger su j h)
-  pub chain : (i : ℕ) → IsChain (ledger su i h)
+  pub chain : (i : ℕ) → IsChain su.config (ledger su i h)
   pub lawful : (i : ℕ) → AreLawful su.config (delivered i h)
   pub proved : (i s : ℕ) → 0 < s → s < height i h → IsProvedAt su h i s
 

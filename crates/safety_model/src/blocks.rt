@@ -27,15 +27,13 @@ fn are_short(requests: &[Request]) -> bool
     requests.iter().all(|request| is_short(request))
 }
 
-/// Whether the format has room for the requests.
-pub fn have_room(requests: &[Request]) -> bool
+fn have_room(requests: &[Request]) -> bool
     ensures { result ≡ have_room requests.now }
 {
     requests.len() <= MOST_REQUESTS && are_short(requests)
 }
 
-/// Whether the format has room for the meta.
-pub fn has_room(meta: &Meta) -> bool
+fn has_room(meta: &Meta) -> bool
     ensures { result ≡ has_room meta.now }
 {
     meta.blacklist.len() <= MOST_IDS && meta.signers.len() <= MOST_IDS

@@ -26,3 +26,26 @@ pub enum Fact {
         proof: Proof,
     },
 }
+
+/// A kind of fact of a member to look for.
+#[derive(Clone, Copy)]
+pub enum Query {
+    Accepted {
+        config: u64,
+        view: u64,
+        number: u64,
+        digest: Digest,
+    },
+    /// With whatever digest.
+    AcceptedAt {
+        config: u64,
+        view: u64,
+        number: u64,
+    },
+    Prepared {
+        config: u64,
+        view: u64,
+        number: u64,
+        digest: Digest,
+    },
+}

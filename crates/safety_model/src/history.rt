@@ -1,0 +1,273 @@
+//! Questions about a list of facts, the oldest first. The definitions see it the newest first.
+ghost use Rattle.std.specs.Prelude.{◌≡◌, ◌==◌, length, reverse, map, ◌&&◌, ◌||◌, Option, Some, if◌then◌else◌};
+ghost use Rattle.std.specs.Str.{bytes_eq};
+ghost use Rattle.std.specs.List.{list_all, list_any};
+ghost use Rattle.ord_types.specs.Members.{is_in, how_many};
+ghost use Rattle.safety_model.specs.Blocks.{Block};
+ghost use Rattle.safety_model.specs.Facts.{Proof, Sig, has, is_accepted, is_accepted_at, is_prepared};
+ghost use Rattle.safety_model.specs.State.{delivered_by, height, last_delivered, last_or, block_or};
+ghost use Rattle.safety_model.specs.Queries.{is_asked};
+
+use crate::fact::{Fact, Query};
+use ord_types::{Block, Digest, Header, Sig};
+
+pub fn is_among(ids: &[u32], id: u32) -> bool
+    ensures { result ≡ is_in id ids.now }
+{
+    ids.iter().any(|other| *other == id)
+}
+
+fn is_by(sig: &Sig, id: u32) -> bool
+    ensures { result ≡ (sig.now.signer == id) }
+{
+    sig.signer == id
+}
+
+/// Whether one of the signatures is the id's.
+fn has_signed(sigs: &[Sig], id: u32) -> bool
+    ensures { result ≡ list_any (λ (s : Sig). s.signer == id) sigs.now }
+{
+    sigs.iter().any(|sig| is_by(sig, id))
+}
+
+fn same_digest(a: &Digest, b: &Digest) -> bool
+    ensures { result ≡ bytes_eq a.now b.now }
+{
+    a == b
+}
+
+fn is_accepted_as(
+    fact: &Fact,
+    member: u32,
+    config: u64,
+    view: u64,
+    number: u64,
+    digest: &Digest,
+) -> bool
+    ensures { result ≡ is_accepted member config view number digest.now fact.now }
+{
+    match fact {
+        Fact::Accepted {
+            member: by,
+            config: under,
+            view: in_view,
+            number: at,
+            digest: what,
+        } => {
+            *by == member
+                && *under == config
+                && *in_view == view
+                && *at == number
+                && same_digest(what, digest)
+        }
+        _ => false,
+    }
+}
+
+fn is_accepted_there(fact: &Fact, member: u32, config: u64, view: u64, number: u64) -> bool
+    ensures { result ≡ is_accepted_at member config view number fact.now }
+{
+    match fact {
+        Fact::Accepted {
+            member: by,
+            config: under,
+            view: in_view,
+            number: at,
+            ..
+        } => *by == member && *under == config && *in_view == view && *at == number,
+        _ => false,
+    }
+}
+
+fn is_prepared_as(
+    fact: &Fact,
+    member: u32,
+    config: u64,
+    view: u64,
+    number: u64,
+    digest: &Digest,
+) -> bool
+    ensures { result ≡ is_prepared member config view number digest.now fact.now }
+{
+    match fact {
+        Fact::Prepared {
+            member: by,
+            config: under,
+            view: in_view,
+            number: at,
+            digest: what,
+        } => {
+            *by == member
+                && *under == config
+                && *in_view == view
+                && *at == number
+                && same_digest(what, digest)
+        }
+        _ => false,
+    }
+}
+
+/// Whether the fact is one of the member's for which the query asks.
+fn is_answer(fact: &Fact, query: &Query, member: u32) -> bool
+    ensures { result ≡ is_asked query.now member fact.now }
+{
+    match query {
+        Query::Accepted {
+            config,
+            view,
+            number,
+            digest,
+        } => is_accepted_as(fact, member, *config, *view, *number, digest),
+        Query::AcceptedAt {
+            config,
+            view,
+            number,
+        } => is_accepted_there(fact, member, *config, *view, *number),
+        Query::Prepared {
+            config,
+            view,
+            number,
+            digest,
+        } => is_prepared_as(fact, member, *config, *view, *number, digest),
+    }
+}
+
+/// Whether the member has a fact for which the query asks.
+#[tactic(auto, using(crate::proofs::Histories::history_more))]
+pub fn has_fact(facts: &[Fact], query: &Query, member: u32) -> bool
+    ensures { result ≡ has (is_asked query.now member) (reverse facts.now) }
+{
+    let mut found = false;
+    for fact in facts {
+        found = is_answer(fact, query, member) || found;
+    }
+    found
+}
+
+/// Whether the member is Byzantine or has a fact for which the query asks.
+fn is_counted(facts: &[Fact], byzantine: &[u32], query: &Query, member: u32) -> bool
+    ensures { result ≡ (is_in member byzantine.now || has (is_asked query.now member) (reverse facts.now)) }
+{
+    is_among(byzantine, member) || has_fact(facts, query, member)
+}
+
+/// How many members are Byzantine or have a fact for which the query asks.
+pub fn count_of(facts: &[Fact], byzantine: &[u32], members: &[u32], query: &Query) -> usize
+    ensures { result ≡ how_many (λ j. is_in j byzantine.now || has (is_asked query.now j) (reverse facts.now)) members.now }
+{
+    let mut count = 0;
+    for member in members {
+        if is_counted(facts, byzantine, query, *member) {
+            count += 1;
+        }
+    }
+    count
+}
+
+/// How many members are Byzantine.
+pub fn faulty_of(byzantine: &[u32], members: &[u32]) -> usize
+    ensures { result ≡ how_many (λ j. is_in j byzantine.now) members.now }
+{
+    let mut count = 0;
+    for member in members {
+        if is_among(byzantine, *member) {
+            count += 1;
+        }
+    }
+    count
+}
+
+/// How many members signed.
+pub fn signed_of(sigs: &[Sig], members: &[u32]) -> usize
+    ensures { result ≡ how_many (λ j. is_in j (map (λ (s : Sig). s.signer) sigs.now)) members.now }
+{
+    let mut count = 0;
+    for member in members {
+        if has_signed(sigs, *member) {
+            count += 1;
+        }
+    }
+    count
+}
+
+/// Whether the signer is a member, who is Byzantine or has a fact for which the query asks.
+fn is_signer(facts: &[Fact], byzantine: &[u32], members: &[u32], query: &Query, sig: &Sig) -> bool
+    ensures { result ≡ (is_in sig.now.signer members.now && (is_in sig.now.signer byzantine.now || has (is_asked query.now sig.now.signer) (reverse facts.now))) }
+{
+    is_among(members, sig.signer) && is_counted(facts, byzantine, query, sig.signer)
+}
+
+fn each_is_signer(
+    facts: &[Fact],
+    byzantine: &[u32],
+    members: &[u32],
+    query: &Query,
+    sigs: &[Sig],
+) -> bool
+    ensures { result ≡ list_all (λ (s : Sig). is_in s.signer members.now && (is_in s.signer byzantine.now || has (is_asked query.now s.signer) (reverse facts.now))) sigs.now }
+{
+    sigs.iter()
+        .all(|sig| is_signer(facts, byzantine, members, query, sig))
+}
+
+/// Whether the signers are all members, who are Byzantine or have a fact for which the query asks.
+#[tactic(auto, using(crate::proofs::Histories::signers_all))]
+pub fn are_signers(
+    facts: &[Fact],
+    byzantine: &[u32],
+    members: &[u32],
+    query: &Query,
+    sigs: &[Sig],
+) -> bool
+    ensures { result ≡ list_all (λ j. is_in j members.now && (is_in j byzantine.now || has (is_asked query.now j) (reverse facts.now))) (map (λ (s : Sig). s.signer) sigs.now) }
+{
+    each_is_signer(facts, byzantine, members, query, sigs)
+}
+
+fn is_delivery(fact: &Fact, member: u32) -> bool
+    ensures { length (delivered_by member fact.now) ≡ (if result then 1 else 0) }
+{
+    match fact {
+        Fact::Delivered { member: by, .. } => *by == member,
+        _ => false,
+    }
+}
+
+/// The number of the member's next block.
+#[tactic(auto, using(crate::proofs::Histories::history_more))]
+pub fn height_of(facts: &[Fact], member: u32) -> u64
+    ensures { result ≡ height member (reverse facts.now) }
+{
+    let mut count = 1;
+    for fact in facts {
+        if is_delivery(fact, member) {
+            count += 1;
+        }
+    }
+    count
+}
+
+fn tip_after(fact: &Fact, member: u32, tip: Header) -> Header
+    ensures { (g : Block) (last : Option (Block × Proof)) → tip ≡ (block_or g last).header → result ≡ (block_or g (last_or member fact.now last)).header }
+{
+    match fact {
+        Fact::Delivered {
+            member: by,
+            block,
+            ..
+        } => { if *by == member { block.header } else { tip } }
+        _ => tip,
+    }
+}
+
+/// The header of the member's last block.
+#[tactic(auto, using(crate::proofs::Histories::history_more))]
+pub fn tip_of(facts: &[Fact], genesis: &Block, member: u32) -> Header
+    ensures { result ≡ (block_or genesis.now (last_delivered member (reverse facts.now))).header }
+{
+    let mut tip = genesis.header;
+    for fact in facts {
+        tip = tip_after(fact, member, tip);
+    }
+    tip
+}

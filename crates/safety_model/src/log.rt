@@ -1,0 +1,327 @@
+//! A list of facts, each allowed by those before it.
+ghost use Rattle.std.specs.Prelude.{◌≡◌, ◌<◌, ◌≤◌, ◌^◌, ◌+◌, ℕ, ◌&&◌, ◌||◌, false, nat_le, length, [], ◌∷◌, OnOk, OnErr, IfOk, ◌↔◌, Some, Err};
+ghost use Rattle.std.specs.Prelude.{List as Items};
+ghost use Rattle.std.specs.List.{list_all};
+ghost use Rattle.ord_types.specs.Genesis.{genesis_block};
+ghost use Rattle.ord_types.specs.Hashes.{block_hash};
+ghost use Rattle.ord_types.specs.Members.{is_raft, is_in, how_many_in, quorum};
+ghost use Rattle.safety_model.specs.Blocks.{is_next_at};
+ghost use Rattle.safety_model.specs.Facts.{has, is_prepared, signers_of};
+ghost use Rattle.safety_model.specs.Queries.{is_asked};
+ghost use Rattle.safety_model.specs.State.{tip};
+ghost use Rattle.safety_model.specs.Rules.{Allowed, count, keeps_bound, is_bft_proof, is_proof, quorum_of, tests, tests_under, vote_tests, first_broken};
+ghost use Rattle.safety_model.specs.declared.fact.Fact.TheVariants as kinds;
+ghost use Rattle.safety_model.specs.Safety.{NoCollision, Agreement};
+
+use crate::blocks::is_next;
+use crate::fact::{Fact, Query};
+use crate::history::{
+    are_signers, count_of, faulty_of, has_fact, height_of, is_among, signed_of, tip_of,
+};
+use crate::widths::fact_fits;
+use ord_types::{
+    Block, Cert, Config, Digest, List, NoMemory, Proof, block_hash, fault_bound, quorum,
+};
+use std::alloc::Global;
+use std::marker::Model;
+
+/// What was done under one BFT configuration, in order: a run.
+#[derive(Drop)]
+pub struct FactLog {
+    genesis: Block,
+    config: Config,
+    byzantine: List<u32>,
+    facts: Vec<Fact>,
+}
+
+impl Model for FactLog {
+    ghost use Rattle.std.specs.Prelude.{reverse};
+    ghost use Rattle.safety_model.specs.Log.{Log, IsLog};
+
+    ghost Value = { Log };
+
+    ghost view = { λ log. record {
+      setup = record { genesis = log.genesis; config = log.config; byzantine = log.byzantine };
+      history = reverse log.facts.items;
+    } };
+
+    ghost invariant = { λ log. IsLog (record { genesis = log.genesis; config = log.config; byzantine = log.byzantine }) (reverse log.facts.items) };
+}
+
+/// Why a fact was not added.
+#[derive(Clone, Copy, Debug, PartialEq, Eq)]
+pub enum FactRefusal {
+    /// The first rule of the table in docs/MODEL.md that it breaks.
+    Rule(u8),
+    NoMemory,
+}
+
+impl FactLog {
+    /// No facts yet. `genesis` is the genesis block of `config`, whose spelling its one request carries;
+    /// `byzantine` are the ids of who may lie.
+    pub fn new(
+        alloc: Global,
+        config: Config,
+        genesis: Block,
+        byzantine: List<u32>,
+    ) -> Result<FactLog, NoMemory>
+        requires block { genesis ≡ genesis_block config }
+        requires bft { is_raft config ≡ false }
+        requires some { 1 ≤ length config.members }
+        requires few { length config.members ≤ 31 }
+        ensures genesis { IfOk result (λ log. log.setup.genesis ≡ genesis) }
+        ensures config { IfOk result (λ log. log.setup.config ≡ config) }
+        ensures byzantine { IfOk result (λ log. log.setup.byzantine ≡ byzantine) }
+        ensures history { IfOk result (λ log. log.history ≡ []) }
+    {
+        Ok(FactLog {
+            genesis,
+            config,
+            byzantine,
+            facts: Vec::new(alloc),
+        })
+    }
+
+    /// Adds what the facts so far allow.
+    pub fn push(&mut self, fact: Fact) -> Result<(), NoMemory>
+        requires { Allowed self.old.setup self.old.history fact }
+        ensures setup { self.new.setup ≡ self.old.setup }
+        ensures ok { OnOk result (self.new.history ≡ fact ∷ self.old.history) }
+        ensures err { OnErr result (self.new.history ≡ self.old.history) }
+    {
+        fact_fits(&fact);
+        self.facts.push(fact)?;
+        Ok(())
+    }
+
+    /// Whatever was pushed, the ledgers of all nodes are prefixes of one chain.
+    #[tactic(auto, using(crate::proofs::Agreeing::runs_agree))]
+    pub fn agrees(&self)
+        ensures { NoCollision self.now.setup self.now.history → Agreement self.now.setup self.now.history }
+    {
+        let _ = &self.genesis;
+    }
+
+    /// Adds the fact exactly where it is allowed. Else the answer is the first rule that it breaks.
+    #[tactic(auto, using(crate::proofs::Agreeing::allowed_where_none_is_broken))]
+    pub fn push_allowed(&mut self, fact: Fact) -> Result<(), FactRefusal>
+        ensures setup { self.new.setup ≡ self.old.setup }
+        ensures ok { OnOk result (self.new.history ≡ fact ∷ self.old.history) }
+        ensures allowed { OnOk result (Allowed self.old.setup self.old.history fact) }
+        ensures rule { (k : ℕ) → k < 2 ^ 8 → (result ≡ Err (FactRefusal.Rule k)) ↔ (first_broken (tests self.old.setup self.old.history fact) ≡ Some k) }
+        ensures err { OnErr result (self.new.history ≡ self.old.history) }
+    {
+        if let Some(rule) = self.broken_rule(&fact) {
+            return Err(FactRefusal::Rule(rule));
+        }
+        match self.push(fact) {
+            Ok(()) => Ok(()),
+            Err(NoMemory) => Err(FactRefusal::NoMemory),
+        }
+    }
+
+    /// The first rule that a fact breaks.
+    #[tactic(auto, using(crate::proofs::Chains::tests_are))]
+    fn broken_rule(&self, fact: &Fact) -> Option<u8>
+        ensures { result ≡ first_broken (tests self.now.setup self.now.history fact.now) }
+    {
+        match fact {
+            Fact::Accepted {
+                member,
+                config,
+                view,
+                number,
+                ..
+            } => self.broken_acceptance(*member, *config, *view, *number),
+            Fact::Prepared {
+                member,
+                config,
+                view,
+                number,
+                digest,
+            } => self.broken_preparation(*member, *config, *view, *number, digest),
+            Fact::Delivered {
+                member,
+                block,
+                proof,
+            } => self.broken_delivery(*member, block, proof),
+        }
+    }
+
+    /// The first of rules 1 to 6 that an acceptance or a preparation breaks: they are the same for both.
+    fn broken_vote(&self, member: u32, config: u64, view: u64, number: u64) -> Option<u8>
+        ensures { result ≡ first_broken (vote_tests self.now.setup self.now.history self.now.setup.config member config view number) }
+    {
+        if is_among(self.byzantine.as_slice(), member) {
+            return Some(1);
+        }
+        if !self.keeps_bound() {
+            return Some(2);
+        }
+        if !is_among(self.config.members.as_slice(), member) {
+            return Some(3);
+        }
+        if self.config.number != config {
+            return Some(4);
+        }
+        if number != height_of(self.facts.as_slice(), member) {
+            return Some(5);
+        }
+        if view != 0 {
+            return Some(6);
+        }
+        None
+    }
+
+    /// The first rule that an acceptance breaks.
+    fn broken_acceptance(&self, member: u32, config: u64, view: u64, number: u64) -> Option<u8>
+        ensures { (d : Items ℕ) → result ≡ first_broken (tests_under self.now.setup self.now.history self.now.setup.config (kinds.Accepted member config view number d)) }
+    {
+        if let Some(rule) = self.broken_vote(member, config, view, number) {
+            return Some(rule);
+        }
+        let there = Query::AcceptedAt {
+            config,
+            view,
+            number,
+        };
+        if has_fact(self.facts.as_slice(), &there, member) {
+            return Some(7);
+        }
+        None
+    }
+
+    /// The first rule that a preparation breaks.
+    fn broken_preparation(
+        &self,
+        member: u32,
+        config: u64,
+        view: u64,
+        number: u64,
+        digest: &Digest,
+    ) -> Option<u8>
+        ensures { result ≡ first_broken (tests_under self.now.setup self.now.history self.now.setup.config (kinds.Prepared member config view number digest.now)) }
+    {
+        if let Some(rule) = self.broken_vote(member, config, view, number) {
+            return Some(rule);
+        }
+        let accepted = Query::Accepted {
+            config,
+            view,
+            number,
+            digest: *digest,
+        };
+        if !has_fact(self.facts.as_slice(), &accepted, member) {
+            return Some(9);
+        }
+        if !self.is_backed(&accepted) {
+            return Some(9);
+        }
+        None
+    }
+
+    /// The first rule that a delivery breaks.
+    fn broken_delivery(&self, member: u32, block: &Block, proof: &Proof) -> Option<u8>
+        ensures { result ≡ first_broken (tests_under self.now.setup self.now.history self.now.setup.config (kinds.Delivered member block.now proof.now)) }
+    {
+        if is_among(self.byzantine.as_slice(), member) {
+            return Some(1);
+        }
+        if !self.keeps_bound() {
+            return Some(2);
+        }
+        if block.header.number != height_of(self.facts.as_slice(), member) {
+            return Some(5);
+        }
+        if !self.comes_next(member, block) {
+            return Some(15);
+        }
+        if !self.is_proved(block, proof) {
+            return Some(16);
+        }
+        None
+    }
+
+    /// How many members make a quorum.
+    fn quorum(&self) -> usize
+        ensures { result ≡ quorum (length self.now.setup.config.members) }
+    {
+        quorum(self.config.members.len() as u32) as usize
+    }
+
+    /// Whether no more members lie than may.
+    fn keeps_bound(&self) -> bool
+        ensures { result ≡ keeps_bound self.now.setup self.now.setup.config }
+    {
+        let members = self.config.members.as_slice();
+        faulty_of(self.byzantine.as_slice(), members) <= fault_bound(members.len() as u32) as usize
+    }
+
+    /// Whether a quorum is Byzantine or has a fact for which the query asks.
+    fn is_backed(&self, query: &Query) -> bool
+        ensures { result ≡ nat_le (quorum_of self.now.setup.config) (count self.now.setup.byzantine self.now.setup.config (λ j. has (is_asked query.now j) self.now.history)) }
+    {
+        self.quorum()
+            <= count_of(
+                self.facts.as_slice(),
+                self.byzantine.as_slice(),
+                self.config.members.as_slice(),
+                query,
+            )
+    }
+
+    /// Whether the block comes next in the node's ledger, and is lawful there.
+    fn comes_next(&self, member: u32, block: &Block) -> bool
+        ensures { result ≡ is_next_at (block_hash (tip self.now.setup member self.now.history)) ((tip self.now.setup member self.now.history).header.number + 1) self.now.setup.config block.now }
+    {
+        let tip = tip_of(self.facts.as_slice(), &self.genesis, member);
+        is_next(&block_hash(&tip), tip.number, &self.config, block)
+    }
+
+    /// Whether the proof is a certificate of the block.
+    fn is_proved(&self, block: &Block, proof: &Proof) -> bool
+        ensures { result ≡ is_bft_proof self.now.setup self.now.history self.now.setup.config block.now.header.number (block_hash block.now) proof.now }
+    {
+        match proof {
+            Proof::Raft => false,
+            Proof::Bft(cert) => self.is_certified(
+                block.header.number,
+                &block_hash(&block.header),
+                cert,
+            ),
+        }
+    }
+
+    /// Whether the signers are a quorum of members, of whom the correct ones prepared the hash.
+    fn is_certified(&self, number: u64, hash: &Digest, cert: &Cert) -> bool
+        ensures { result ≡ is_proof self.now.setup self.now.history self.now.setup.config self.now.setup.config.number number hash.now cert.now }
+    {
+        self.have_prepared(number, hash, cert) && self.have_signed(cert)
+    }
+
+    /// Whether the signers are members, of whom the correct ones prepared the hash.
+    fn have_prepared(&self, number: u64, hash: &Digest, cert: &Cert) -> bool
+        ensures { result ≡ list_all (λ signer. is_in signer self.now.setup.config.members && (is_in signer self.now.setup.byzantine || has (is_prepared signer self.now.setup.config.number cert.now.view number hash.now) self.now.history)) (signers_of cert.now) }
+    {
+        let query = Query::Prepared {
+            config: self.config.number,
+            view: cert.view,
+            number,
+            digest: *hash,
+        };
+        are_signers(
+            self.facts.as_slice(),
+            self.byzantine.as_slice(),
+            self.config.members.as_slice(),
+            &query,
+            cert.sigs.as_slice(),
+        )
+    }
+
+    /// Whether a quorum of distinct members signed.
+    fn have_signed(&self, cert: &Cert) -> bool
+        ensures { result ≡ nat_le (quorum_of self.now.setup.config) (how_many_in (signers_of cert.now) self.now.setup.config.members) }
+    {
+        self.quorum() <= signed_of(cert.sigs.as_slice(), self.config.members.as_slice())
+    }
+}
