@@ -1,8 +1,8 @@
 -- What a step of a node makes is allowed, and rests on facts.
-use Rattle.std.proofs.Common.{◌≡◌, ℕ, zero, suc, Bool, true, false, ◌||◌, List, [], ◌∷◌, ◌++◌, map, reverse, refl, sym, subst, ap, ◌∙◌, Option, Some, None, append_assoc, arith}
+use Rattle.std.proofs.Common.{◌≡◌, ℕ, zero, suc, Bool, true, false, ◌||◌, List, [], ◌∷◌, ◌++◌, map, reverse, refl, sym, subst, ap, ◌∙◌, Option, Some, None, append-nil, arith}
 use Rattle.std.specs.Prelude.{◌==◌, not, nat_le, filter}
 use Rattle.std.specs.List.{AllByRecursion, flat_map}
-use Rattle.std.proofs.lemmas.Bool.{eq-eqb, le-leb, or_right}
+use Rattle.std.proofs.lemmas.Bool.{eq-eqb, le-leb, or_left, or_right}
 use Rattle.std.proofs.lemmas.List.{reverse-append}
 use Rattle.ord_types.specs.Genesis.{genesis_block}
 use Rattle.ord_types.specs.Hashes.{block_hash}
@@ -18,11 +18,12 @@ use Rattle.safety_model.specs.Rules.{Allowed, IsRun, actor, bound_of, faulty, is
 use Rattle.safety_model.specs.Safety.{IsGenesis}
 use Rattle.safety_model.proofs.FactTests.{accepted_itself, prepared_itself}
 use Rattle.signer_edge.specs.Accepts.{Accepts}
+use Rattle.signer_edge.specs.Statements.{commit_text}
 use Rattle.bft_wire.specs.declared.message.Message.TheVariants as message_of
 use Rattle.node_model.specs.Letters.{Commit, Message}
 use Rattle.node_model.specs.Leading.{Place}
 use Rattle.node_model.specs.Acts.{View, acceptance_due, carried_cert, delivery_due, preparation_due, proposed}
-use Rattle.node_model.specs.Past.{Past, Did, Signed, facts_of}
+use Rattle.node_model.specs.Past.{Past, Came, Did, Signed, facts_of}
 use Rattle.node_model.specs.Keeping.{PastNode, past_ways, place_of, view_of}
 use Rattle.node_model.specs.Steps.{Event, Keys, Making, Post, Tick, FromMember, accept_round, begins, commit_message, deliver_round, makes_accepted, makes_delivered, makes_prepared, next, own_rule, prepare_message, prepare_round, preprepare_message, propose_round, rounds, to_all, votes}
 use Rattle.world_safety.specs.Resting.{Bounded, has_ground}
@@ -122,10 +123,121 @@ module _ (su : Setup) (i : ℕ) (h : History) (honest : IsHonest su) where
       let place = place_in n in
       let w = view_in n in
       let f = Accepted n.id place.config.number w.view place.height (block_hash b) in
-      let last : has_ground (f ∷ told h m) n.id (prepare_message place w b) ≡ true = Rattle.std.proofs.lemmas.Bool.or_left _ _ (accepted_itself n.id place.config.number w.view place.height (block_hash b)) in
+      let last : has_ground (f ∷ told h m) n.id (prepare_message place w b) ≡ true = or_left _ _ (accepted_itself n.id place.config.number w.view place.height (block_hash b)) in
       let messages = all_append (λ message. has_ground (f ∷ told h m) n.id message ≡ true) first (prepare_message place w b ∷ []) good (last, tt) in
       let sent = all_flat (IsGoodPost (f ∷ told h m) n.id) (to_all place.config.members n.id) (first ++ prepare_message place w b ∷ [])
         (all_map (λ message. has_ground (f ∷ told h m) n.id message ≡ true) (λ message. AllByRecursion (IsGoodPost (f ∷ told h m) n.id) (to_all place.config.members n.id message))
         (λ message is. sent_all (f ∷ told h m) n.id place.config.members message is) (first ++ prepare_message place w b ∷ []) messages) in
       after_fact su i h m st f (Did f (Some b) ∷ n.past) (flat_map (to_all place.config.members n.id) (first ++ prepare_message place w b ∷ [])) m.signed ok (eq-eqb n.id n.id refl)
       (did_accept n.setup (told h m) n.id n.past place.config.number w.view place.height b st.node) sent
+
+  -- PREPARE
+  prepare_stands : (m : Making PastNode) → MakingStands su i h m → (keys : Keys) (d : List ℕ)
+      → Allowed m.state.setup (told h m) (Prepared m.state.id (place_in m.state).config.number (view_in m.state).view (place_in m.state).height d)
+      → MakingStands su i h (makes_prepared past_ways keys d m)
+  unfolding view_of place_in view_in
+  prepare_stands m st keys d ok =
+      let n = m.state in
+      let place = place_in n in
+      let w = view_in n in
+      let f = Prepared n.id place.config.number w.view place.height d in
+      let commit = commit_message place w d (keys.signs m.signed) in
+      let signed = m.signed ++ commit_text place.config.number w.view place.height d ∷ [] in
+      let ground : has_ground (f ∷ told h m) n.id (message_of.Commit commit) ≡ true = or_left _ _ (prepared_itself n.id place.config.number w.view place.height d) in
+      after_fact su i h m st f (Signed commit (keys.accepts signed) ∷ Did f None ∷ n.past) (to_all place.config.members n.id (message_of.Commit commit)) signed ok (eq-eqb n.id n.id refl)
+      (signed_commit n.setup (f ∷ told h m) n.id (Did f None ∷ n.past) commit (keys.accepts signed)
+      (did_prepare n.setup (told h m) n.id n.past place.config.number w.view place.height d st.node) ground)
+      (sent_all (f ∷ told h m) n.id place.config.members (message_of.Commit commit) ground)
+
+  -- DELIVER
+  deliver_stands : (m : Making PastNode) → MakingStands su i h m → (b : Block) (cert : Cert) → Allowed m.state.setup (told h m) (Delivered m.state.id b (proof_of.Bft cert))
+      → MakingStands su i h (makes_delivered past_ways b cert m)
+  unfolding view_of
+  deliver_stands m st b cert ok =
+      let n = m.state in
+      let f = Delivered n.id b (proof_of.Bft cert) in
+      let one = after_fact su i h m st f (Did f None ∷ n.past) [] m.signed ok (eq-eqb n.id n.id refl) (did_deliver n.setup (told h m) n.id n.past b (proof_of.Bft cert) st.node) tt in
+      subst (λ (posts : List Post). MakingStands su i h (record { state = record { setup = n.setup; id = n.id; past = Did f None ∷ n.past }; facts = m.facts ++ f ∷ []; posts = posts; signed = m.signed }))
+      (append-nil m.posts) one
+
+  -- THE ROUNDS
+  accept_round_stands : (m : Making PastNode) → MakingStands su i h m → (accepts : Accepts) (o : Option Block) → acceptance_due accepts (place_in m.state) (view_in m.state) ≡ o
+      → MakingStands su i h (accept_round past_ways o m)
+  unfolding place_in view_in
+  accept_round_stands m st accepts None is = st
+  accept_round_stands m st accepts (Some b) is =
+      let n = m.state in
+      accept_stands m st b []
+      (acceptances_allowed n.setup (told h m) n.id (place_in n) (view_in n) accepts b (stands n.setup (told h m) n.id n.past st.node) (honest_bounded n.setup (told h m) n.id (honest_in m st)) is) tt
+
+  prepare_round_stands : (m : Making PastNode) → MakingStands su i h m → (keys : Keys) (o : Option (List ℕ)) → preparation_due (place_in m.state) (view_in m.state) ≡ o
+      → MakingStands su i h (prepare_round past_ways keys o m)
+  unfolding place_in view_in
+  prepare_round_stands m st keys None is = st
+  prepare_round_stands m st keys (Some d) is =
+      let n = m.state in
+      prepare_stands m st keys d
+      (preparations_allowed n.setup (told h m) n.id (place_in n) (view_in n) d (stands n.setup (told h m) n.id n.past st.node) (honest_bounded n.setup (told h m) n.id (honest_in m st)) is)
+
+  votes_stand : (m : Making PastNode) → MakingStands su i h m → (keys : Keys) → MakingStands su i h (votes past_ways keys m)
+  unfolding place_in view_in
+  votes_stand m st keys =
+      let due = acceptance_due (keys.accepts m.signed) (place_in m.state) (view_in m.state) in
+      let accepted = accept_round past_ways due m in
+      let one : MakingStands su i h accepted = accept_round_stands m st (keys.accepts m.signed) due refl in
+      prepare_round_stands accepted one keys (preparation_due (place_in accepted.state) (view_in accepted.state)) refl
+
+  deliver_round_stands : (m : Making PastNode) → MakingStands su i h m → (o : Option (Block × Cert)) → delivery_due (place_in m.state) (view_in m.state) ≡ o
+      → (rest : Making PastNode → Making PastNode) → ((next : Making PastNode) → MakingStands su i h next → MakingStands su i h (rest next))
+      → MakingStands su i h (deliver_round past_ways o m rest)
+  unfolding place_in view_in
+  deliver_round_stands m st None is rest more = st
+  deliver_round_stands m st (Some d) is rest more =
+      let n = m.state in
+      let honest_n = honest_in m st in
+      more (makes_delivered past_ways d.0 d.1 m)
+      (deliver_stands m st d.0 d.1
+      (deliveries_allowed n.setup (told h m) n.id (place_in n) (view_in n) d.0 d.1 (stands n.setup (told h m) n.id n.past st.node)
+      (stands_last n.setup (told h m) n.id n.past st.node st.run (genesis_first n.setup honest_n)) (honest_bounded n.setup (told h m) n.id honest_n) is))
+
+  rounds_stand : (keys : Keys) (k : ℕ) (m : Making PastNode) → MakingStands su i h m → MakingStands su i h (rounds past_ways keys k m)
+  unfolding place_in view_in
+  rounds_stand keys zero m st = st
+  rounds_stand keys (suc k) m st =
+      let voted = votes past_ways keys m in
+      deliver_round_stands voted (votes_stand m st keys) (delivery_due (place_in voted.state) (view_in voted.state)) refl (λ delivered. rounds past_ways keys k delivered) (rounds_stand keys k)
+
+  -- THE EVENT'S OWN RULE
+  propose_round_stands : (m : Making PastNode) → MakingStands su i h m → (offer : List Request) (o : Option Block) → proposed (place_in m.state) (view_in m.state) offer ≡ o
+      → MakingStands su i h (propose_round past_ways o m)
+  unfolding place_in view_in
+  propose_round_stands m st offer None is = st
+  propose_round_stands m st offer (Some b) is =
+      let n = m.state in
+      let place = place_in n in
+      let w = view_in n in
+      accept_stands m st b (preprepare_message place w b ∷ [])
+      (proposals_allowed n.setup (told h m) n.id place w offer b (stands n.setup (told h m) n.id n.past st.node) (honest_bounded n.setup (told h m) n.id (honest_in m st)) is)
+      (or_left _ _ (accepted_itself n.id place.config.number w.view place.height (block_hash b)), tt)
+
+  own_rule_stands : (m : Making PastNode) → MakingStands su i h m → (event : Event) → MakingStands su i h (own_rule past_ways event m)
+  unfolding place_in view_in
+  own_rule_stands m st (Tick offer) = propose_round_stands m st offer (proposed (place_in m.state) (view_in m.state) offer) refl
+  own_rule_stands m st (FromMember letter) = st
+
+-- A STEP of node n
+pub next_stands : (su : Setup) (i : ℕ) (h : History) → IsHonest su → (keys : Keys) (n : PastNode) (event : Event) → n.setup ≡ su → n.id ≡ i → IsRun su h → NodeStands su h i n.past → EventRests su h event
+    → MakingStands su i h (next past_ways keys n event)
+unfolding next
+next_stands su i h honest keys n event setup id run node good =
+    let came : NodeStands su h i (Came event (keys.accepts []) ∷ n.past) = event_came su h i n.past event (keys.accepts []) node good in
+    let first : MakingStands su i h (begins past_ways keys n event) =
+      record {
+        setup = setup;
+        id = id;
+        run = subst (λ su. IsRun su h) (sym setup) run;
+        node = subst (λ su. NodeStands su h n.id (Came event (keys.accepts []) ∷ n.past)) (sym setup) (subst (λ i. NodeStands su h i (Came event (keys.accepts []) ∷ n.past)) (sym id) came);
+        posts = tt;
+        actors = tt;
+      } in
+    rounds_stand su i h honest keys 2 (own_rule past_ways event (begins past_ways keys n event)) (own_rule_stands su i h honest (begins past_ways keys n event) first event)
