@@ -5,3 +5,5 @@ pub mod Delivering
 pub mod Own
 pub mod Nodes
 pub mod Makings
+pub mod Worlds
+pub mod Turns

@@ -1,0 +1,118 @@
+-- Every line of a script keeps a good world.
+use Rattle.std.proofs.Common.{◌≡◌, ℕ, zero, suc, ◌+◌, ◌-◌, Bool, true, false, List, [], ◌∷◌, ◌++◌, length, map, cond, refl, sym, subst, ap, Option, Some, None, Result, Ok, Err}
+use Rattle.std.specs.Prelude.{◌==◌, nat_lt, IfOk, codes, position, slice_get}
+use Rattle.std.specs.List.{AllByRecursion, find, flat_map}
+use Rattle.std.proofs.lemmas.Bool.{or_right}
+use Rattle.safety_model.specs.Blocks.{Config, Request}
+use Rattle.safety_model.specs.Facts.{History}
+use Rattle.safety_model.specs.State.{Setup}
+use Rattle.line_flow.specs.Lines.{lines}
+use Rattle.script.specs.Commands.{AreIds, IsWellFormed}
+use Rattle.script.specs.Grammar.{meaning}
+use Rattle.script.specs.declared.command.Command.{Command}
+use Rattle.script.specs.declared.command.Command.TheVariants.{Genesis, Submit, Tick, Deliver, Flush}
+use Rattle.script.specs.declared.command.Meaning.TheVariants.{Means}
+use Rattle.script.specs.declared.command.Range.{Range}
+use Rattle.script.proofs.CommandLemmas.{meaning_fits}
+use Rattle.script_play.specs.declared.ending.Ending.{Ending}
+use Rattle.script_play.specs.declared.ending.Ending.TheVariants.{Limit}
+use Rattle.script_play.specs.Turns.{Turn}
+use Rattle.script_play.specs.Worlds.{Keeps}
+use Rattle.script_play.proofs.WorldLemmas.{worlds_keep}
+use Rattle.node_model.specs.Keeping.{PastNode}
+use Rattle.node_model.specs.Past.{Opened}
+use Rattle.node_model.specs.Steps.{Event}
+use Rattle.world_model.specs.Histories.{past_setting, worlds_of}
+use Rattle.world_model.specs.Texts.{deliver_text, fact_text, flush_text, limit_text, tick_text}
+use Rattle.world_model.specs.Turns.{at_node, deliver_turn, deliveries, delivery, delivery_to, event_turn, first_config, first_world, flush_turn, flushes, goes_on, most_entries, most_flushed, ordinary, says, some_world, submit_turn, submitted, then_on, tick_at, ticks, turn_in, turn_of, within_limit}
+use Rattle.world_model.specs.Worlds.{Entry, Node, World, entry, is_waiting, letter_from, making, marked, node_at, tick_of, world_after}
+use Rattle.world_safety.specs.Resting.{has_ground}
+use Rattle.world_safety.proofs.Lists.{all_mapped, all_of}
+use Rattle.world_safety.proofs.Makings.{IsHonest}
+use Rattle.world_safety.proofs.Nodes.{EventRests, NodeStands, opened}
+use Rattle.world_safety.proofs.Worlds.{EntryIn, GoodWorld, NodeIn, all_set, ascending_apart, event_keeps, found_entry, found_node, with_ids, with_new}
+
+-- a world, in the turn that leads to it
+abbrev Leads : {W : Type 0} → (W → Type 0) → Turn W → Type 0
+Leads P turn = IfOk turn.next P
+
+on_leads : {V W : Type 0} (P : V → Type 0) (Q : W → Type 0) (printed : List ℕ) (r : Result V Ending) (rest : V → Turn W) → IfOk r P → ((v : V) → P v → Leads Q (rest v)) → Leads Q (then_on printed r rest)
+on_leads P Q printed (Ok v) rest good more = more v good
+on_leads P Q printed (Err e) rest good more = tt
+
+goes_leads : {V W : Type 0} (P : V → Type 0) (Q : W → Type 0) (turn : Turn V) (rest : V → Turn W) → Leads P turn → ((v : V) → P v → Leads Q (rest v)) → Leads Q (goes_on turn rest)
+goes_leads P Q turn rest good more = on_leads P Q turn.printed turn.next rest good more
+
+module _ (su : Setup) (number : ℕ) where
+  -- AN EVENT
+  event_leads : (w : World PastNode History) (node : Node PastNode) (event : Event) → GoodWorld su w → NodeIn su w.told node → EventRests su w.told event
+      → Leads (GoodWorld su) (event_turn past_setting number w node event)
+  unfolding event_turn
+  event_leads w node event good is rests = go (nat_lt most_entries (length after.network))
+    where
+      after : World PastNode History
+      after = world_after past_setting w node (making past_setting w node event)
+      go : (t : Bool) → Leads (GoodWorld su) (cond t (record { printed = flat_map (fact_text number) (making past_setting w node event).facts ++ limit_text number most_entries; next = Err (Limit most_entries) })
+        (says (flat_map (fact_text number) (making past_setting w node event).facts) after))
+      go true = tt
+      go false = event_keeps su w node event good is rests
+
+  -- TICK
+  tick_leads : (w : World PastNode History) (id : ℕ) (o : Option (Node PastNode)) → GoodWorld su w → node_at id w.nodes ≡ o → Leads (GoodWorld su) (tick_at past_setting number w o)
+  tick_leads w id None good is = good
+  tick_leads w id (Some node) good is =
+      event_leads w node (tick_of past_setting.ways node) good (found_node (NodeIn su w.told) (λ node. node.id == id) w.nodes node good.nodes is) tt
+
+  ticks_lead : (id n : ℕ) (w : World PastNode History) → GoodWorld su w → Leads (GoodWorld su) (ticks past_setting number id n w)
+  unfolding ticks
+  ticks_lead id zero w good = good
+  ticks_lead id (suc n) w good =
+      goes_leads (GoodWorld su) (GoodWorld su) (tick_at past_setting number w (node_at id w.nodes)) (λ next. ticks past_setting number id n next)
+      (tick_leads w id (node_at id w.nodes) good refl) (ticks_lead id n)
+
+  -- DELIVER
+  marked_good : (k : ℕ) (e : Entry) (w : World PastNode History) → GoodWorld su w → EntryIn w.told e → GoodWorld su (marked k e w)
+  marked_good k e w good is =
+      record {
+        honest = good.honest;
+        run = good.run;
+        members = good.members;
+        apart = good.apart;
+        nodes = good.nodes;
+        network = all_set (EntryIn w.told) w.network k (record e { came = true }) good.network (record { ground = is.ground });
+      }
+
+  delivery_to_leads : (e : Entry) (w : World PastNode History) (o : Option (Node PastNode)) → GoodWorld su w → EntryIn w.told e → node_at e.to w.nodes ≡ o → Leads (GoodWorld su) (delivery_to past_setting number e w o)
+  delivery_to_leads e w None good rests is = good
+  delivery_to_leads e w (Some node) good rests is =
+      event_leads w node (letter_from e) good (found_node (NodeIn su w.told) (λ node. node.id == e.to) w.nodes node good.nodes is) (or_right _ _ rests.ground)
+
+  delivery_leads : (k : ℕ) (e : Entry) (w : World PastNode History) → GoodWorld su w → EntryIn w.told e → Leads (GoodWorld su) (delivery past_setting number k e w)
+  delivery_leads k e w good rests = delivery_to_leads e (marked k e w) (node_at e.to w.nodes) (marked_good k e w good rests) rests refl
+
+  entry_in : (k : ℕ) (e : Entry) (w : World PastNode History) → GoodWorld su w → entry k w ≡ Some e → EntryIn w.told e
+  entry_in zero e w good is = absurd (cc)
+  entry_in (suc k) e w good is = found_entry (EntryIn w.told) w.network k e good.network is
+
+  deliveries_lead : (n k count : ℕ) (w : World PastNode History) (rest : ℕ → World PastNode History → Turn (World PastNode History)) → GoodWorld su w
+      → ((more : ℕ) (next : World PastNode History) → GoodWorld su next → Leads (GoodWorld su) (rest more next))
+      → Leads (GoodWorld su) (deliveries past_setting number n k count w rest)
+  unfolding deliveries
+  deliveries_lead zero k count w rest good more = more count w good
+  deliveries_lead (suc n) k count w rest good more = go (entry k w) refl (λ next good. deliveries_lead n (k + 1) (count + 1) next rest good more)
+    where
+      go : (o : Option Entry) → entry k w ≡ o → ((next : World PastNode History) → GoodWorld su next → Leads (GoodWorld su) (deliveries past_setting number n (k + 1) (count + 1) next rest))
+          → Leads (GoodWorld su) (elim o [
+            | None ↦ Rattle.world_model.specs.Turns.refuses number (codes "no entry") w
+            | Some e ↦ goes_on (delivery past_setting number (k - 1) e w) (λ next. deliveries past_setting number n (k + 1) (count + 1) next rest)
+          ])
+      go None is then_on = good
+      go (Some e) is then_on =
+          goes_leads (GoodWorld su) (GoodWorld su) (delivery past_setting number (k - 1) e w) (λ next. deliveries past_setting number n (k + 1) (count + 1) next rest)
+          (delivery_leads (k - 1) e w good (entry_in k e w good is)) then_on
+
+  deliver_leads : (ranges : List Range) (count : ℕ) (w : World PastNode History) → GoodWorld su w → Leads (GoodWorld su) (deliver_turn past_setting number ranges count w)
+  unfolding deliver_turn
+  deliver_leads [] count w good = good
+  deliver_leads (range ∷ ranges) count w good =
+      deliveries_lead (range.last + 1 - range.first) range.first count w (λ more next. deliver_turn past_setting number ranges more next) good (λ more next. deliver_leads ranges more next)
