@@ -7,3 +7,4 @@ pub mod Nodes
 pub mod Makings
 pub mod Worlds
 pub mod Turns
+pub mod Safety

@@ -1,8 +1,9 @@
 -- Every line of a script keeps a good world.
-use Rattle.std.proofs.Common.{◌≡◌, ℕ, zero, suc, ◌+◌, ◌-◌, Bool, true, false, List, [], ◌∷◌, ◌++◌, length, map, cond, refl, sym, subst, ap, Option, Some, None, Result, Ok, Err}
+use Rattle.std.proofs.Common.{◌≡◌, ℕ, zero, suc, ◌+◌, ◌-◌, Bool, true, false, List, [], ◌∷◌, ◌++◌, length, map, cond, refl, sym, subst, ap, ◌∙◌, Option, Some, None, Result, Ok, Err}
 use Rattle.std.specs.Prelude.{◌==◌, nat_lt, IfOk, codes, position, slice_get}
 use Rattle.std.specs.List.{AllByRecursion, find, flat_map}
 use Rattle.std.proofs.lemmas.Bool.{or_right}
+use Rattle.ord_types.specs.Genesis.{genesis_block}
 use Rattle.safety_model.specs.Blocks.{Config, Request}
 use Rattle.safety_model.specs.Facts.{History}
 use Rattle.safety_model.specs.State.{Setup}
@@ -24,13 +25,13 @@ use Rattle.node_model.specs.Past.{Opened}
 use Rattle.node_model.specs.Steps.{Event}
 use Rattle.world_model.specs.Histories.{past_setting, worlds_of}
 use Rattle.world_model.specs.Texts.{deliver_text, fact_text, flush_text, limit_text, tick_text}
-use Rattle.world_model.specs.Turns.{at_node, deliver_turn, deliveries, delivery, delivery_to, event_turn, first_config, first_world, flush_turn, flushes, goes_on, most_entries, most_flushed, ordinary, says, some_world, submit_turn, submitted, then_on, tick_at, ticks, turn_in, turn_of, within_limit}
+use Rattle.world_model.specs.Turns.{at_node, deliver_turn, deliveries, delivery, delivery_to, event_turn, first_config, first_world, flush_turn, flushes, goes_on, most_entries, most_flushed, ordinary, refuses, says, some_world, submit_turn, submitted, then_on, tick_at, ticks, turn_in, turn_of, within_limit}
 use Rattle.world_model.specs.Worlds.{Entry, Node, World, entry, is_waiting, letter_from, making, marked, node_at, tick_of, world_after}
 use Rattle.world_safety.specs.Resting.{has_ground}
 use Rattle.world_safety.proofs.Lists.{all_mapped, all_of}
 use Rattle.world_safety.proofs.Makings.{IsHonest}
 use Rattle.world_safety.proofs.Nodes.{EventRests, NodeStands, opened}
-use Rattle.world_safety.proofs.Worlds.{EntryIn, GoodWorld, NodeIn, all_set, ascending_apart, event_keeps, found_entry, found_node, with_ids, with_new}
+use Rattle.world_safety.proofs.Worlds.{Apart, EntryIn, GoodWorld, NodeIn, all_set, ascending_apart, event_keeps, found_entry, found_node, ids_of, with_ids, with_new}
 
 -- a world, in the turn that leads to it
 abbrev Leads : {W : Type 0} → (W → Type 0) → Turn W → Type 0
@@ -103,7 +104,7 @@ module _ (su : Setup) (number : ℕ) where
     where
       go : (o : Option Entry) → entry k w ≡ o → ((next : World PastNode History) → GoodWorld su next → Leads (GoodWorld su) (deliveries past_setting number n (k + 1) (count + 1) next rest))
           → Leads (GoodWorld su) (elim o [
-            | None ↦ Rattle.world_model.specs.Turns.refuses number (codes "no entry") w
+            | None ↦ refuses number (codes "no entry") w
             | Some e ↦ goes_on (delivery past_setting number (k - 1) e w) (λ next. deliveries past_setting number n (k + 1) (count + 1) next rest)
           ])
       go None is then_on = good
@@ -116,3 +117,102 @@ module _ (su : Setup) (number : ℕ) where
   deliver_leads [] count w good = good
   deliver_leads (range ∷ ranges) count w good =
       deliveries_lead (range.last + 1 - range.first) range.first count w (λ more next. deliver_turn past_setting number ranges more next) good (λ more next. deliver_leads ranges more next)
+
+  -- FLUSH
+  flushes_lead : (w : World PastNode History) (o : Option ℕ) (done : Turn (World PastNode History)) (rest : World PastNode History → Turn (World PastNode History)) → GoodWorld su w → Leads (GoodWorld su) done
+      → ((next : World PastNode History) → GoodWorld su next → Leads (GoodWorld su) (rest next)) → Leads (GoodWorld su) (flushes past_setting number w o done rest)
+  flushes_lead w None done rest good ended more = ended
+  flushes_lead w (Some k) done rest good ended more = go (slice_get w.network k) refl
+    where
+      go : (o : Option Entry) → slice_get w.network k ≡ o
+          → Leads (GoodWorld su) (elim o [ None ↦ done | Some e ↦ goes_on (delivery past_setting number k e w) rest ])
+      go None is = ended
+      go (Some e) is = goes_leads (GoodWorld su) (GoodWorld su) (delivery past_setting number k e w) rest (delivery_leads k e w good (found_entry (EntryIn w.told) w.network k e good.network is)) more
+
+  flush_leads : (only : Option (List ℕ)) (n count : ℕ) (w : World PastNode History) → GoodWorld su w → Leads (GoodWorld su) (flush_turn past_setting number only n count w)
+  unfolding flush_turn
+  flush_leads only zero count w good = good
+  flush_leads only (suc n) count w good =
+      flushes_lead w (position (is_waiting only) w.network) (says (flush_text number count) w) (λ next. flush_turn past_setting number only n (count + 1) next) good good (λ next good. flush_leads only n (count + 1) next good)
+
+  -- SUBMIT
+  submit_leads : (w : World PastNode History) (node : Node PastNode) (r : Request) → GoodWorld su w → NodeIn su w.told node → Leads (GoodWorld su) (submit_turn number w node r)
+  submit_leads w node r good is =
+      let new = submitted node r in
+      record {
+        honest = good.honest;
+        run = good.run;
+        members = with_ids new w.nodes ∙ good.members;
+        apart = good.apart;
+        nodes = with_new su w.told w.told new (λ other not_it before. before) (record { setup = is.setup; id = is.id; stands = is.stands }) w.nodes (subst Apart (sym good.members) good.apart) good.nodes;
+        network = good.network;
+      }
+
+  -- A COMMAND
+  node_leads : (id : ℕ) (w : World PastNode History) (o : Option (Node PastNode)) (turn : Node PastNode → Turn (World PastNode History)) → GoodWorld su w → node_at id w.nodes ≡ o
+      → ((node : Node PastNode) → NodeIn su w.told node → Leads (GoodWorld su) (turn node)) → Leads (GoodWorld su) (at_node number w o turn)
+  node_leads id w None turn good is more = good
+  node_leads id w (Some node) turn good is more = more node (found_node (NodeIn su w.told) (λ node. node.id == id) w.nodes node good.nodes is)
+
+  command_leads : (w : World PastNode History) (command : Command) → GoodWorld su w → Leads (GoodWorld su) (turn_in past_setting number w command)
+  command_leads w (Genesis members) good = good
+  command_leads w (Submit id client serial payload) good =
+      node_leads id w (node_at id w.nodes) (λ node. submit_turn number w node (ordinary client serial payload)) good refl (λ node is. submit_leads w node (ordinary client serial payload) good is)
+  command_leads w (Tick id count) good = node_leads id w (node_at id w.nodes) (λ node. ticks past_setting number id count w) good refl (λ node is. ticks_lead id count w good)
+  command_leads w (Deliver ranges) good = deliver_leads ranges 0 w good
+  command_leads w (Flush only) good = flush_leads only most_flushed 0 w good
+
+-- GENESIS
+
+same_ids : (c : Config) (ids : List ℕ) → ids_of (map (λ id. record { id = id; state = past_setting.ways.opens c id; pool = [] }) ids) ≡ ids
+same_ids c [] = refl
+same_ids c (id ∷ ids) = ap (λ more. id ∷ more) (same_ids c ids)
+
+first_setup : Config → Setup
+first_setup c = record { genesis = genesis_block c; config = c; byzantine = [] }
+
+first_good : (members : List ℕ) → AreIds members → GoodWorld (first_setup (first_config members)) (first_world past_setting (first_config members))
+unfolding first_setup
+first_good members are =
+    let c = first_config members in
+    let su = first_setup c in
+    record {
+      honest = record { genesis = record { block = refl; bft = refl }; correct = refl };
+      run = tt;
+      members = same_ids c members;
+      apart = ascending_apart members are.ascending;
+      nodes = all_mapped (NodeIn su []) (λ id. record { id = id; state = past_setting.ways.opens c id; pool = [] }) members
+      (all_of (λ id. NodeIn su [] (record { id = id; state = past_setting.ways.opens c id; pool = [] })) (λ id. record { setup = refl; id = refl; stands = opened su id }) members);
+      network = tt;
+    }
+
+-- a good world of some setup, where there is a world
+pub record IsGood (w : World PastNode History) : Type 0 where
+  pub setup : Setup
+  pub good : GoodWorld setup w
+
+abbrev pub IsGoodIn : Option (World PastNode History) → Type 0
+IsGoodIn None = Unit {0}
+IsGoodIn (Some w) = IsGood w
+
+turn_leads : (o : Option (World PastNode History)) (number : ℕ) (command : Command) → IsWellFormed command → IsGoodIn o → Leads IsGoodIn (turn_of past_setting o number command)
+unfolding turn_of
+turn_leads None number (Genesis members) formed good = record { setup = first_setup (first_config members); good = first_good members formed }
+turn_leads None number (Submit id client serial payload) formed good = tt
+turn_leads None number (Tick id count) formed good = tt
+turn_leads None number (Deliver ranges) formed good = tt
+turn_leads None number (Flush only) formed good = tt
+turn_leads (Some w) number command formed good =
+    goes_leads (GoodWorld good.setup) IsGoodIn (turn_in past_setting number w command) some_world (command_leads good.setup number w command good.good)
+    (λ next is. record { setup = good.setup; good = is })
+
+led : {W : Type 0} (P : W → Type 0) (r : Result W Ending) (next : W) → IfOk r P → r ≡ Ok next → P next
+led P (Ok w) next good is = let same : w ≡ next = cc in subst P same good
+led P (Err e) next good is = absurd (cc)
+
+commands_keep : Keeps (turn_of past_setting) IsGoodIn
+commands_keep world next number line command means good is =
+    led IsGoodIn (turn_of past_setting world number command).next next (turn_leads world number command (meaning_fits line command means) good) is
+
+pub worlds_good : (script : List ℕ) → AllByRecursion IsGoodIn (worlds_of [] script)
+worlds_good script = worlds_keep (turn_of past_setting) IsGoodIn commands_keep (lines script) None 1 tt
