@@ -12,7 +12,7 @@ use Rattle.safety_model.specs.Rules.{Allowed}
 use Rattle.node_model.specs.Leading.{Place, leader}
 use Rattle.node_model.specs.Acts.{View, block_if, is_inside_view, is_voting, kept_proposal, may_propose, proposal}
 use Rattle.node_model.specs.Checks.{is_next_block}
-use Rattle.world_safety.specs.Resting.{Stands, Bounded, AcceptancesAreAllowed, ProposalsAreAllowed}
+use Rattle.world_safety.proofs.Standing.{Stands, Bounded, AcceptancesAreAllowed, ProposalsAreAllowed}
 
 none_is : {X : Type 0} (o : Option X) → is_none o ≡ true → o ≡ None
 none_is None h = refl

@@ -16,8 +16,8 @@ use Rattle.node_model.specs.declared.letter.Letter.{Letter}
 use Rattle.node_model.specs.Letters.{Message, is_commit_for}
 use Rattle.node_model.specs.Leading.{Place}
 use Rattle.node_model.specs.Checks.{is_next_block}
-use Rattle.node_model.specs.Acts.{View, certificate, commits, delivery_if, first_of, kept_sig, sig_in, sig_of}
-use Rattle.world_safety.specs.Resting.{DeliveriesAreAllowed, IsKeptWell, Stands, StandsLast, names}
+use Rattle.node_model.specs.Acts.{View, certificate, commits, delivery_due, delivery_if, first_of, kept_sig, sig_in, sig_of}
+use Rattle.world_safety.proofs.Standing.{DeliveriesAreAllowed, IsKeptWell, Stands, StandsLast, names}
 
 -- the members' signatures, one after the other
 all_named : (P : ℕ → Bool) (f : ℕ → Option Sig) (xs : List ℕ) → ((m : ℕ) → is_in m xs ≡ true → (sig : Sig) → f m ≡ Some sig → P sig.signer ≡ true) → list_all P (map (λ (s : Sig). s.signer) (filter_map f xs)) ≡ true
@@ -107,33 +107,35 @@ some_same {x = x} h = ap (value_or x) h
 
 -- what a delivery has that is due
 record Due (place : Place) (w : View) (b : Block) (cert : Cert) : Type 0 where
+  accepted : w.accepted ≡ Some b
   bft : is_raft place.config ≡ false
   quorum : nat_le (quorum_of place.config) (length (commits place w (block_hash b))) ≡ true
   next : is_next_block place b ≡ true
   cert_is : certificate place w b ≡ cert
 
-due_if : (place : Place) (w : View) (b x : Block) (cert : Cert) (t : Bool) → is_raft place.config ≡ false → (nat_le (quorum_of place.config) (length (commits place w (block_hash x))) && is_next_block place x) ≡ t
+due_if : (place : Place) (w : View) (b x : Block) (cert : Cert) (t : Bool) → w.accepted ≡ Some x → is_raft place.config ≡ false → (nat_le (quorum_of place.config) (length (commits place w (block_hash x))) && is_next_block place x) ≡ t
     → cond {A = Option (Block × Cert)} t (Some (x, certificate place w x)) None ≡ Some (b, cert) → Due place w b cert
-due_if place w b x cert false bft is h = absurd (cc)
-due_if place w b x cert true bft is h =
+due_if place w b x cert false at bft is h = absurd (cc)
+due_if place w b x cert true at bft is h =
     let p = and_parts (nat_le (quorum_of place.config) (length (commits place w (block_hash x)))) (is_next_block place x) is in
     let pair : (x, certificate place w x) ≡ (b, cert) = some_same h in
     let block : x ≡ b = ap (λ (q : Block × Cert). q.0) pair in
     let certs : certificate place w x ≡ cert = ap (λ (q : Block × Cert). q.1) pair in
     record {
+      accepted = at ∙ ap (λ (b : Block). Some b) block;
       bft = bft;
       quorum = subst (λ b. nat_le (quorum_of place.config) (length (commits place w (block_hash b))) ≡ true) block p.0;
       next = subst (λ b. is_next_block place b ≡ true) block p.1;
       cert_is = ap (λ b. certificate place w b) (sym block) ∙ certs;
     }
 
-due_some : (place : Place) (w : View) (b : Block) (cert : Cert) (o : Option Block) → is_raft place.config ≡ false → delivery_if place w o ≡ Some (b, cert) → Due place w b cert
-due_some place w b cert None bft h = absurd (none_some h)
-due_some place w b cert (Some x) bft h = due_if place w b x cert (nat_le (quorum_of place.config) (length (commits place w (block_hash x))) && is_next_block place x) bft refl h
+due_some : (place : Place) (w : View) (b : Block) (cert : Cert) (o : Option Block) → w.accepted ≡ o → is_raft place.config ≡ false → delivery_if place w o ≡ Some (b, cert) → Due place w b cert
+due_some place w b cert None at bft h = absurd (none_some h)
+due_some place w b cert (Some x) at bft h = due_if place w b x cert (nat_le (quorum_of place.config) (length (commits place w (block_hash x))) && is_next_block place x) at bft refl h
 
 due_is : (place : Place) (w : View) (b : Block) (cert : Cert) (t : Bool) → is_raft place.config ≡ t → cond t None (delivery_if place w w.accepted) ≡ Some (b, cert) → Due place w b cert
 due_is place w b cert true is h = absurd (none_some h)
-due_is place w b cert false is h = due_some place w b cert w.accepted is h
+due_is place w b cert false is h = due_some place w b cert w.accepted refl is h
 
 -- what a next block has
 record Next (place : Place) (b : Block) : Type 0 where
@@ -147,6 +149,12 @@ next_is place b h =
     let c = and_parts ((b.header.number == place.height) && bytes_eq b.header.previous place.last) (hashes_fit b) a.0 in
     let d = and_parts (b.header.number == place.height) (bytes_eq b.header.previous place.last) c.0 in
     record { number = eqb-true _ _ d.0; rest = and_from _ _ d.1 c.1; lawful = a.1 }
+
+-- what is delivered was accepted, and is the block of the height
+pub delivery_is : (place : Place) (w : View) (b : Block) (cert : Cert) → delivery_due place w ≡ Some (b, cert) → (w.accepted ≡ Some b) × (b.header.number ≡ place.height)
+delivery_is place w b cert is =
+    let due = due_is place w b cert (is_raft place.config) refl is in
+    (due.accepted, (next_is place b due.next).number)
 
 -- the certificate's signers are enough members that prepared
 proved : (su : Setup) (h : History) (i : ℕ) (place : Place) (w : View) (b : Block) → Stands su h i place w → nat_le (quorum_of place.config) (length (commits place w (block_hash b))) ≡ true

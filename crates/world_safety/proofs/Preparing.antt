@@ -18,7 +18,7 @@ use Rattle.node_model.specs.declared.letter.Letter.{Letter}
 use Rattle.node_model.specs.Letters.{Message, is_prepare_for}
 use Rattle.node_model.specs.Leading.{Place}
 use Rattle.node_model.specs.Acts.{View, digest_if, has_prepare, is_inside_view, is_members_prepare, is_voting, preparation_due, prepares}
-use Rattle.world_safety.specs.Resting.{IsKeptWell, Stands, Bounded, PreparationsAreAllowed}
+use Rattle.world_safety.proofs.Standing.{IsKeptWell, Stands, Bounded, PreparationsAreAllowed}
 
 -- of a list whose elements all have a property, one that passes a test
 found : {X : Type 0} (test : X → Bool) (P : X → Type 0) (xs : List X) → list_any test xs ≡ true → AllByRecursion P xs → (x : X) × (test x ≡ true) × P x

@@ -1,34 +1,40 @@
 -- Every event keeps a world in which the nodes' facts are a run and the messages rest on them.
 use Rattle.std.proofs.Common.{◌≡◌, ℕ, zero, suc, ◌+◌, ◌<◌, ◌≤◌, Bool, true, false, ◌||◌, List, [], ◌∷◌, ◌++◌, length, map, reverse, cond, refl, sym, subst, ap, ◌∙◌, Option, Some, None, get_or, set, arith}
-use Rattle.std.specs.Prelude.{◌==◌, slice_get}
-use Rattle.std.specs.List.{AllByRecursion, AllPairs, find}
+use Rattle.std.specs.Prelude.{◌==◌, not, slice_get}
+use Rattle.std.specs.List.{All, AllByRecursion, AllPairs, find, flat_map}
 use Rattle.std.specs.List.Sorted.{IsStrictlyIncreasing}
 use Rattle.std.proofs.lemmas.Bool.{eq-eqb, eqb-true, false_from_ne_true, or_right}
+use Rattle.std.proofs.lemmas.List.Elements.{All-filter}
 use Rattle.std.proofs.lemmas.List.Kept.{AllPairs-from_increasing}
 use Rattle.safety_model.specs.Facts.{History}
 use Rattle.safety_model.specs.declared.fact.Fact.{Fact}
 use Rattle.safety_model.specs.State.{Setup}
 use Rattle.safety_model.specs.Rules.{IsRun, actor}
+use Rattle.safety_model.specs.Safety.{RequestFits}
 use Rattle.node_model.specs.Letters.{Message}
 use Rattle.node_model.specs.Past.{Past}
 use Rattle.node_model.specs.Keeping.{PastNode, past_ways}
 use Rattle.node_model.specs.Steps.{Event, Making, Post}
 use Rattle.world_model.specs.Histories.{past_setting}
-use Rattle.world_model.specs.Worlds.{Entry, Node, World, keys_of, letter_from, making, node_after, sent_by, with_node, world_after}
+use Rattle.world_model.specs.Pools.{has_id}
+use Rattle.world_model.specs.Worlds.{Entry, Node, World, keys_of, letter_from, making, node_after, requests_in, sent_by, with_node, world_after}
 use Rattle.world_safety.specs.Resting.{has_ground}
 use Rattle.world_safety.proofs.Lists.{all_append, all_map, all_mapped, all_reverse}
-use Rattle.world_safety.proofs.Makings.{IsGoodPost, IsHonest, MakingStands, next_stands, told}
-use Rattle.world_safety.proofs.Nodes.{EventRests, NodeStands, ground_more, other_did}
+use Rattle.world_safety.proofs.Fits.{FactIn}
+use Rattle.world_safety.proofs.Makings.{IsGoodMessage, IsGoodPost, MakingStands, next_stands, proposals_of, told, within_more}
+use Rattle.world_safety.proofs.Placing.{IsHonest}
+use Rattle.world_safety.proofs.Nodes.{IsGoodEvent, NodeStands, ground_more, other_did}
 
 -- a node of the world, where these are all facts
 pub record NodeIn (su : Setup) (h : History) (node : Node PastNode) : Type 0 where
   pub setup : node.state.setup ≡ su
   pub id : node.state.id ≡ node.id
   pub stands : NodeStands su h node.id node.state.past
+  pub pool : All RequestFits node.pool
 
--- an entry rests on a fact of its sender
-pub record EntryIn (h : History) (e : Entry) : Type 0 where
-  pub ground : has_ground h e.from e.message ≡ true
+-- an entry rests on a fact of its sender, and what it proposes fits
+abbrev pub EntryIn : History → Entry → Type 0
+EntryIn h e = IsGoodMessage h e.from e.message
 
 -- no two ids are equal
 abbrev pub Apart : List ℕ → Type 0
@@ -38,9 +44,11 @@ Apart (x ∷ xs) = AllByRecursion (λ y. (y == x) ≡ false) xs × Apart xs
 abbrev pub ids_of : List (Node PastNode) → List ℕ
 ids_of nodes = map (λ node. node.id) nodes
 
-pub record GoodWorld (su : Setup) (w : World PastNode History) : Type 0 where
+-- a world in which numbers up to most were proposed
+pub record GoodWorld (su : Setup) (most : ℕ) (w : World PastNode History) : Type 0 where
   pub honest : IsHonest su
   pub run : IsRun su w.told
+  pub within : AllByRecursion (FactIn most) w.told
   pub members : ids_of w.nodes ≡ su.config.members
   pub apart : Apart su.config.members
   pub nodes : AllByRecursion (NodeIn su w.told) w.nodes
@@ -100,31 +108,46 @@ with_new su h g new keep good (node ∷ nodes) apart all = go (node.id == new.id
 
 -- AN EVENT
 
-pub event_keeps : (su : Setup) (w : World PastNode History) (node : Node PastNode) (event : Event) → GoodWorld su w → NodeIn su w.told node → EventRests su w.told event
-    → GoodWorld su (world_after past_setting w node (making past_setting w node event))
-event_keeps su w node event good in_world rests =
+pub event_keeps : (su : Setup) (most : ℕ) (w : World PastNode History) (node : Node PastNode) (event : Event) → GoodWorld su most w → NodeIn su w.told node → IsGoodEvent su w.told event
+    → GoodWorld su (most + proposals_of event) (world_after past_setting w node (making past_setting w node event))
+event_keeps su most w node event good is brought =
     let h = w.told in
     let m = making past_setting w node event in
     let i = node.id in
-    let st : MakingStands su i h m = next_stands su i h good.honest (keys_of w.seals i) node.state event in_world.setup in_world.id good.run in_world.stands rests in
+    let more = most + proposals_of event in
+    let st : MakingStands su i h more m = next_stands su i h good.honest most (keys_of w.seals i) node.state event is.setup is.id good.run good.within is.stands brought in
     let g = told h m in
     let run : IsRun su g = subst (λ su. IsRun su g) st.setup st.run in
     let mine : NodeStands su g i m.state.past = subst (λ i. NodeStands su g i m.state.past) st.id (subst (λ su. NodeStands su g m.state.id m.state.past) st.setup st.node) in
     let acts : AllByRecursion (λ f. (actor f == i) ≡ true) (reverse m.facts) = all_reverse (λ f. (actor f == i) ≡ true) m.facts (subst (λ i. AllByRecursion (λ f. (actor f == i) ≡ true) m.facts) st.id st.actors) in
     let posts : AllByRecursion (IsGoodPost g i) m.posts = subst (λ i. AllByRecursion (IsGoodPost g i) m.posts) st.id st.posts in
     let new = node_after node m in
-    let sent = all_mapped (EntryIn g) (λ (post : Post). record { from = i; to = post.to; message = post.message; came = false }) m.posts
-      (all_map (IsGoodPost g i) (λ post. EntryIn g (record { from = i; to = post.to; message = post.message; came = false })) (λ post p. record { ground = p.ground }) m.posts posts) in
+    let sent = all_mapped (EntryIn g) (λ (post : Post). record { from = i; to = post.to; message = post.message; came = false }) m.posts posts in
+    let delivered = flat_map requests_in m.facts in
     record {
       honest = good.honest;
       run = run;
+      within = st.within;
       members = with_ids new w.nodes ∙ good.members;
       apart = good.apart;
       nodes = with_new su h g new
-        (λ other not_it before. record { setup = before.setup; id = before.id; stands = other_over su h i other.id other.state.past (reverse m.facts) acts not_it before.stands })
-        (record { setup = st.setup; id = st.id; stands = mine }) w.nodes (subst Apart (sym good.members) good.apart) good.nodes;
+        (λ other not_it before. record { setup = before.setup; id = before.id; stands = other_over su h i other.id other.state.past (reverse m.facts) acts not_it before.stands; pool = before.pool })
+        (record { setup = st.setup; id = st.id; stands = mine; pool = All-filter (λ r. not (has_id r.id delivered)) RequestFits node.pool is.pool }) w.nodes (subst Apart (sym good.members) good.apart) good.nodes;
       network = all_append (EntryIn g) w.network (sent_by i m.posts)
-        (all_map (EntryIn h) (EntryIn g) (λ e p. record { ground = ground_over h (reverse m.facts) e.from e.message p.ground }) w.network good.network) sent;
+        (all_map (EntryIn h) (EntryIn g) (λ e p. record { ground = ground_over h (reverse m.facts) e.from e.message p.ground; fits = p.fits }) w.network good.network) sent;
+    }
+
+-- more may have been proposed
+pub world_more : (su : Setup) (most more : ℕ) (w : World PastNode History) → most ≤ more → GoodWorld su most w → GoodWorld su more w
+world_more su most more w le good =
+    record {
+      honest = good.honest;
+      run = good.run;
+      within = within_more most more le w.told good.within;
+      members = good.members;
+      apart = good.apart;
+      nodes = good.nodes;
+      network = good.network;
     }
 
 -- WHAT IS FOUND

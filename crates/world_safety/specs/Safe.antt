@@ -3,7 +3,7 @@ use Rattle.std.specs.Prelude.{◌≡◌, ℕ, ◌≤◌, ◌^◌, List, [], map,
 use Rattle.std.specs.List.{AllByRecursion}
 use Rattle.safety_model.specs.Facts.{History}
 use Rattle.safety_model.specs.Rules.{IsRun}
-use Rattle.safety_model.specs.Safety.{Agreement, AllFit, IsGenesis, NoCollision}
+use Rattle.safety_model.specs.Safety.{Agreement, IsGenesis, NoCollision}
 use Rattle.safety_model.specs.State.{Setup}
 use Rattle.node_model.specs.Keeping.{PastNode}
 use Rattle.node_model.specs.Past.{facts_of}
@@ -27,7 +27,7 @@ pub record IsSafeWorld (w : World PastNode History) : Type 0 where
   pub nodes : AllByRecursion (IsNodeOf setup w.told) w.nodes
   pub run : IsRun setup w.told
   pub resting : AllByRecursion (λ (e : Entry). IsTrue (has_ground w.told e.from e.message)) w.network
-  pub agreement : NoCollision setup w.told → AllFit w.told → Agreement setup w.told
+  pub agreement : NoCollision setup w.told → Agreement setup w.told
 
 -- nothing is said where there is no world yet
 abbrev pub IsSafe : Option (World PastNode History) → Type 0
