@@ -4,7 +4,7 @@ use Rattle.std.specs.Prelude.{◌==◌, not, nat_le, is_none}
 use Rattle.std.proofs.lemmas.Bool.{and_parts, and_from, eq-eqb}
 use Rattle.ord_types.specs.Hashes.{block_hash}
 use Rattle.ord_types.specs.Members.{is_in, is_raft}
-use Rattle.safety_model.specs.Blocks.{Config, Request}
+use Rattle.safety_model.specs.Blocks.{Config}
 use Rattle.safety_model.specs.Facts.{History, has, is_accepted_at}
 use Rattle.safety_model.specs.declared.fact.Fact.TheVariants.{Accepted}
 use Rattle.safety_model.specs.State.{Setup, height, config_of, view, left}

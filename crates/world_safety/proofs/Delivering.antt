@@ -1,6 +1,6 @@
 -- A delivery that is due is allowed.
 use Rattle.std.proofs.Common.{◌≡◌, ℕ, ◌+◌, ◌≤◌, Bool, true, false, ◌||◌, ◌&&◌, suc, List, [], ◌∷◌, map, length, cond, refl, sym, subst, ap, ◌∙◌, inl, inr, Option, Some, None, arith}
-use Rattle.std.specs.Prelude.{◌==◌, not, nat_le, nat_lt, filter_map}
+use Rattle.std.specs.Prelude.{◌==◌, nat_le, filter_map}
 use Rattle.std.specs.List.{AllByRecursion, list_all, cons_option}
 use Rattle.std.specs.Str.{bytes_eq}
 use Rattle.std.proofs.lemmas.Bool.{or_left, or_right, or_cases, and_parts, and_from, eqb-true, eq-eqb, leb-true, le-leb}
@@ -16,8 +16,8 @@ use Rattle.node_model.specs.declared.letter.Letter.{Letter}
 use Rattle.node_model.specs.Letters.{Message, is_commit_for}
 use Rattle.node_model.specs.Leading.{Place}
 use Rattle.node_model.specs.Checks.{is_next_block}
-use Rattle.node_model.specs.Acts.{View, certificate, commits, delivery_due, delivery_if, first_of, kept_sig, sig_in, sig_of}
-use Rattle.world_safety.proofs.Standing.{DeliveriesAreAllowed, IsKeptWell, Stands, StandsLast, names}
+use Rattle.node_model.specs.Acts.{View, certificate, commits, delivery_due, delivery_if, first_of, kept_sig, sig_in}
+use Rattle.world_safety.proofs.Standing.{DeliveriesAreAllowed, IsKeptWell, Stands}
 
 -- the members' signatures, one after the other
 all_named : (P : ℕ → Bool) (f : ℕ → Option Sig) (xs : List ℕ) → ((m : ℕ) → is_in m xs ≡ true → (sig : Sig) → f m ≡ Some sig → P sig.signer ≡ true) → list_all P (map (λ (s : Sig). s.signer) (filter_map f xs)) ≡ true

@@ -2,7 +2,6 @@
 use Rattle.std.proofs.Common.{◌≡◌, ℕ, ◌<◌, ◌≤◌, ◌^◌, List, []}
 use Rattle.std.specs.List.{All}
 use Rattle.safety_model.specs.Blocks.{Block}
-use Rattle.safety_model.specs.Facts.{Proof}
 use Rattle.safety_model.specs.Safety.{RequestFits}
 use Rattle.safety_model.specs.declared.fact.Fact.{Fact}
 use Rattle.safety_model.specs.declared.fact.Fact.TheVariants.{Accepted, Prepared, Delivered}

@@ -1,12 +1,12 @@
 -- An accepted block fits.
-use Rattle.std.proofs.Common.{◌≡◌, ℕ, zero, suc, ◌+◌, ◌-◌, ◌<◌, ◌≤◌, ◌^◌, Bool, true, false, ◌||◌, ◌&&◌, List, [], ◌∷◌, length, map, cond, refl, sym, subst, ap, ◌∙◌, inl, inr, Option, Some, None, arith}
+use Rattle.std.proofs.Common.{◌≡◌, ℕ, ◌+◌, ◌-◌, ◌<◌, ◌≤◌, ◌^◌, Bool, true, false, ◌||◌, ◌&&◌, List, [], ◌∷◌, length, map, cond, refl, sym, subst, ap, ◌∙◌, inl, inr, Option, Some, None, arith}
 use Rattle.std.specs.Prelude.{◌==◌, not, nat_le, nat_lt, is_none}
 use Rattle.std.specs.List.{All, AllByRecursion, list_all}
 use Rattle.std.specs.Str.{bytes_eq}
 use Rattle.std.proofs.lemmas.Bool.{and_parts, eqb-true, or_cases}
 use Rattle.std.proofs.lemmas.List.Elements.{All-cons, All-head, All-nil, All-tail}
 use Rattle.ord_types.specs.Hashes.{block_hash}
-use Rattle.ord_types.specs.Members.{how_many_in, is_in, is_raft, quorum}
+use Rattle.ord_types.specs.Members.{how_many_in, is_in, quorum}
 use Rattle.ord_types.specs.declared.values.Cert.{Cert}
 use Rattle.ord_types.specs.declared.values.Sig.{Sig}
 use Rattle.safety_model.specs.Blocks.{Block, Meta, Request}
@@ -24,8 +24,8 @@ use Rattle.node_model.specs.declared.letter.Letter.{Letter}
 use Rattle.node_model.specs.Letters.{Message, PrePrepare, proposal_in}
 use Rattle.node_model.specs.Leading.{Place, is_at_start, leader, meta_eq, next_meta, turn}
 use Rattle.node_model.specs.Checks.{is_block_of_view, is_carried_good, is_next_block, signers_carried}
-use Rattle.node_model.specs.Acts.{View, acceptance_due, block_if, carried_cert, first_of, is_acceptable, is_inside_view, is_voting, kept_proposal, may_propose, proposal, proposal_of, proposed}
-use Rattle.world_safety.proofs.Fits.{AreSmall, FactIn, FitsAt, MessageFits}
+use Rattle.node_model.specs.Acts.{View, acceptance_due, block_if, carried_cert, first_of, is_acceptable, is_inside_view, is_voting, kept_proposal, may_propose, proposal, proposed}
+use Rattle.world_safety.proofs.Fits.{AreSmall, FactIn, FitsAt}
 use Rattle.world_safety.proofs.Standing.{IsKeptWell, Stands as StandsBy}
 
 pub all_stands : (P : Fact → Type 0) (h : History) (f : Fact) → AllByRecursion P h → Stands h f → P f

@@ -52,8 +52,10 @@ module _ {W : Type 0} (turn : W → ℕ → Command → Turn W) (Good : ℕ → 
   pub worlds_keep_at : (ls : List (List ℕ)) (world : W) (number : ℕ) → number ≤ max_lines + 1 → Good number world → AllByRecursion (IsGoodAt Good) (worlds turn ls world number)
   unfolding worlds
   worlds_keep_at [] world number le good = (record { number = number; within = le; good = good }, tt)
-  worlds_keep_at (line ∷ more) world number le good =
-      (record { number = number; within = le; good = good }, after_keeps (line_turn turn world number line).next (λ next. worlds turn more next (number + 1))
+  worlds_keep_at (line ∷ more) world number le good = (
+    record { number = number; within = le; good = good },
+    after_keeps (line_turn turn world number line).next (λ next. worlds turn more next (number + 1))
         (λ next is. (let kept = line_keeps world next number line good is in
         let within = kept.0 in
-        worlds_keep_at more next (number + 1) (omega arith) kept.1)))
+        worlds_keep_at more next (number + 1) (omega arith) kept.1)),
+  )

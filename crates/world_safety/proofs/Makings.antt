@@ -1,5 +1,5 @@
 -- What a step of a node makes is allowed, and rests on facts.
-use Rattle.std.proofs.Common.{◌≡◌, ℕ, zero, suc, ◌+◌, ◌≤◌, Bool, true, false, ◌||◌, List, [], ◌∷◌, ◌++◌, map, reverse, refl, sym, subst, ap, ◌∙◌, Option, Some, None, append-nil, arith}
+use Rattle.std.proofs.Common.{◌≡◌, ℕ, zero, suc, ◌+◌, ◌≤◌, true, ◌||◌, List, [], ◌∷◌, ◌++◌, reverse, refl, sym, subst, ap, ◌∙◌, Option, Some, None, append-nil, arith}
 use Rattle.std.specs.Prelude.{◌==◌, not, nat_le, filter}
 use Rattle.std.specs.List.{All, AllByRecursion, flat_map}
 use Rattle.std.proofs.lemmas.Bool.{eq-eqb, le-leb, or_left, or_right}
@@ -8,27 +8,27 @@ use Rattle.ord_types.specs.Hashes.{block_hash}
 use Rattle.ord_types.specs.Members.{how_many, is_in, is_raft}
 use Rattle.ord_types.specs.declared.values.Cert.{Cert}
 use Rattle.ord_types.specs.declared.values.Proof.TheVariants as proof_of
-use Rattle.safety_model.specs.Blocks.{Block, Config, Request}
+use Rattle.safety_model.specs.Blocks.{Block, Request}
 use Rattle.safety_model.specs.Facts.{History}
 use Rattle.safety_model.specs.declared.fact.Fact.{Fact}
 use Rattle.safety_model.specs.declared.fact.Fact.TheVariants.{Accepted, Prepared, Delivered}
 use Rattle.safety_model.specs.State.{Setup, config_of, height}
-use Rattle.safety_model.specs.Rules.{Allowed, IsRun, actor, bound_of, faulty, is_correct, keeps_bound}
+use Rattle.safety_model.specs.Rules.{Allowed, IsRun, actor, bound_of, faulty}
 use Rattle.safety_model.specs.Safety.{RequestFits}
 use Rattle.safety_model.proofs.OneView.{accepted_stands}
 use Rattle.safety_model.proofs.FactTests.{accepted_itself, prepared_itself}
 use Rattle.signer_edge.specs.Accepts.{Accepts}
 use Rattle.signer_edge.specs.Statements.{commit_text}
 use Rattle.bft_wire.specs.declared.message.Message.TheVariants as message_of
-use Rattle.node_model.specs.Letters.{Commit, Message}
+use Rattle.node_model.specs.Letters.{Message}
 use Rattle.node_model.specs.Leading.{Place}
-use Rattle.node_model.specs.Acts.{View, acceptance_due, carried_cert, delivery_due, preparation_due, proposed}
+use Rattle.node_model.specs.Acts.{View, acceptance_due, delivery_due, preparation_due, proposed}
 use Rattle.node_model.specs.Past.{Past, Came, Did, Signed, facts_of}
 use Rattle.node_model.specs.Keeping.{PastNode, past_ways, place_of, view_of}
 use Rattle.node_model.specs.Steps.{Event, Keys, Making, Post, Tick, FromMember, accept_round, begins, commit_message, deliver_round, makes_accepted, makes_delivered, makes_prepared, next, own_rule, prepare_message, prepare_round, preprepare_message, propose_round, rounds, to_all, votes}
 use Rattle.world_safety.specs.Resting.{has_ground}
 use Rattle.world_safety.proofs.Standing.{Bounded}
-use Rattle.world_safety.proofs.Lists.{all_append, all_filter, all_flat, all_map, all_mapped, all_of}
+use Rattle.world_safety.proofs.Lists.{all_append, all_flat, all_map, all_mapped, all_of}
 use Rattle.world_safety.proofs.Accepting.{acceptances_allowed, proposals_allowed}
 use Rattle.world_safety.proofs.Preparing.{preparations_allowed}
 use Rattle.world_safety.proofs.Delivering.{deliveries_allowed, delivery_is}
@@ -133,8 +133,8 @@ module _ (su : Setup) (i : ℕ) (h : History) (honest : IsHonest su) (most : ℕ
       let last : IsGoodMessage (f ∷ told h m) n.id (prepare_message place w b) = record { ground = or_left _ _ (accepted_itself n.id place.config.number w.view place.height (block_hash b)); fits = tt } in
       let messages = all_append (IsGoodMessage (f ∷ told h m) n.id) first (prepare_message place w b ∷ []) good (last, tt) in
       let sent = all_flat (IsGoodPost (f ∷ told h m) n.id) (to_all place.config.members n.id) (first ++ prepare_message place w b ∷ [])
-        (all_map (IsGoodMessage (f ∷ told h m) n.id) (λ message. AllByRecursion (IsGoodPost (f ∷ told h m) n.id) (to_all place.config.members n.id message))
-        (λ message is. sent_all (f ∷ told h m) n.id place.config.members message is) (first ++ prepare_message place w b ∷ []) messages) in
+      (all_map (IsGoodMessage (f ∷ told h m) n.id) (λ message. AllByRecursion (IsGoodPost (f ∷ told h m) n.id) (to_all place.config.members n.id message))
+      (λ message is. sent_all (f ∷ told h m) n.id place.config.members message is) (first ++ prepare_message place w b ∷ []) messages) in
       after_fact su i h most m st f (Did f (Some b) ∷ n.past) (flat_map (to_all place.config.members n.id) (first ++ prepare_message place w b ∷ [])) m.signed ok (eq-eqb n.id n.id refl) fits.number
       (did_accept n.setup (told h m) n.id n.past place.config.number w.view place.height b fits.fits st.node) sent
 
@@ -284,14 +284,14 @@ unfolding next
 next_stands su i h honest most keys n event setup id run within node good =
     let came : NodeStands su h i (Came event (keys.accepts []) ∷ n.past) = event_came su h i n.past event (keys.accepts []) node good in
     let first : MakingStands su i h most (begins past_ways keys n event) =
-      record {
-        setup = setup;
-        id = id;
-        run = subst (λ su. IsRun su h) (sym setup) run;
-        within = within;
-        node = subst (λ su. NodeStands su h n.id (Came event (keys.accepts []) ∷ n.past)) (sym setup) (subst (λ i. NodeStands su h i (Came event (keys.accepts []) ∷ n.past)) (sym id) came);
-        posts = tt;
-        actors = tt;
-      } in
+    record {
+      setup = setup;
+      id = id;
+      run = subst (λ su. IsRun su h) (sym setup) run;
+      within = within;
+      node = subst (λ su. NodeStands su h n.id (Came event (keys.accepts []) ∷ n.past)) (sym setup) (subst (λ i. NodeStands su h i (Came event (keys.accepts []) ∷ n.past)) (sym id) came);
+      posts = tt;
+      actors = tt;
+    } in
     rounds_stand su i h honest (most + proposals_of event) keys 2 (own_rule past_ways event (begins past_ways keys n event))
     (own_rule_stands su i h honest most (begins past_ways keys n event) first event good)

@@ -1,5 +1,5 @@
 -- What a node is by the list of all facts, and that its acts keep it.
-use Rattle.std.proofs.Common.{◌≡◌, ℕ, ◌+◌, Bool, true, false, ◌||◌, ◌&&◌, List, [], ◌∷◌, ◌++◌, cond, refl, sym, subst, ap, ◌∙◌, inl, inr, Option, Some, None, reverse}
+use Rattle.std.proofs.Common.{◌≡◌, ℕ, Bool, true, false, ◌||◌, ◌&&◌, List, [], ◌∷◌, cond, refl, sym, subst, ap, ◌∙◌, inl, inr, Some, None, reverse}
 use Rattle.std.specs.Prelude.{◌==◌, not, filter}
 use Rattle.std.specs.List.{All, AllByRecursion, list_any}
 use Rattle.std.specs.Str.{bytes_eq}
@@ -11,7 +11,7 @@ use Rattle.safety_model.specs.Blocks.{Block}
 use Rattle.safety_model.specs.Facts.{History, has, is_accepted, is_accepted_at, is_prepared}
 use Rattle.safety_model.specs.declared.fact.Fact.{Fact}
 use Rattle.safety_model.specs.declared.fact.Fact.TheVariants.{Accepted, Prepared, Delivered}
-use Rattle.safety_model.specs.State.{Setup, block_or, config_of, height, is_inside, tip}
+use Rattle.safety_model.specs.State.{Setup, config_of, height, is_inside, tip}
 use Rattle.safety_model.specs.Rules.{IsRun, actor}
 use Rattle.safety_model.specs.Safety.{RequestFits}
 use Rattle.safety_model.proofs.FactTests.{bytes_eq_refl}
@@ -159,7 +159,7 @@ timely_names : (su : Setup) (i : ℕ) (h : History) (accepts : Accepts) (letter 
 timely_names su i h accepts letter is =
     let c = config_of su i h in
     let p = and_parts (is_in letter.from c.members && not (is_raft c) && (config_in letter.message == c.number)
-      && is_inside i c.number (view_in letter.message) h && is_near (height i h) letter) (is_signed accepts letter.from letter.message) is in
+    && is_inside i c.number (view_in letter.message) h && is_near (height i h) letter) (is_signed accepts letter.from letter.message) is in
     signed_names accepts letter.from letter.message p.1
 
 -- a letter that comes rests on a fact, and what it proposes fits
@@ -181,7 +181,7 @@ signed_commit su h i past m accepts st is =
     record {
       own = st.own;
       timely = all_append (IsGoodLetter su h) (filter (is_timely su i (facts_of past) accepts) (own_commit i m ∷ [])) (timely su i past)
-      (timely_good su h i (facts_of past) accepts (own_commit i m ∷ []) (record { rests = or_right _ _ is; fits = tt }, tt)) st.timely;
+          (timely_good su h i (facts_of past) accepts (own_commit i m ∷ []) (record { rests = or_right _ _ is; fits = tt }, tt)) st.timely;
       accepted = st.accepted;
       fresh = st.fresh;
       fits = st.fits;
@@ -207,7 +207,7 @@ event_came su h i past event accepts st good =
     record {
       own = st.own;
       timely = all_append (IsGoodLetter su h) (filter (is_timely su i (facts_of past) accepts) (letter_of i event)) (timely su i past)
-      (timely_good su h i (facts_of past) accepts (letter_of i event) (letter_brought su h i event good)) st.timely;
+          (timely_good su h i (facts_of past) accepts (letter_of i event) (letter_brought su h i event good)) st.timely;
       accepted = st.accepted;
       fresh = st.fresh;
       fits = st.fits;

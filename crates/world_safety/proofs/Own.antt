@@ -1,5 +1,5 @@
 -- What the history says of a node, its own facts say.
-use Rattle.std.proofs.Common.{◌≡◌, ℕ, ◌+◌, Bool, true, false, ◌||◌, List, [], ◌∷◌, ◌++◌, length, cond, refl, sym, ap, ◌∙◌, append-nil, Option}
+use Rattle.std.proofs.Common.{◌≡◌, ℕ, ◌+◌, Bool, true, false, List, [], ◌∷◌, ◌++◌, length, cond, refl, ap, ◌∙◌, append-nil, Option}
 use Rattle.std.specs.Prelude.{◌==◌}
 use Rattle.safety_model.specs.Blocks.{Block, config_at}
 use Rattle.safety_model.specs.Facts.{History, Proof}

@@ -1,6 +1,6 @@
 -- Where a node stands, its last block and its last certificate fit.
-use Rattle.std.proofs.Common.{◌≡◌, ℕ, ◌+◌, ◌<◌, ◌≤◌, ◌^◌, Bool, true, false, ◌||◌, ◌&&◌, List, [], length, refl, sym, subst, ap, ◌∙◌, Option, Some, None, arith}
-use Rattle.std.specs.Prelude.{◌==◌, nat_le}
+use Rattle.std.proofs.Common.{◌≡◌, ℕ, ◌+◌, ◌≤◌, Bool, true, ◌||◌, ◌&&◌, List, [], refl, sym, subst, ap, ◌∙◌, Option, Some, None, arith}
+use Rattle.std.specs.Prelude.{nat_le}
 use Rattle.std.specs.List.{AllByRecursion, list_all}
 use Rattle.std.proofs.lemmas.Bool.{and_parts}
 use Rattle.ord_types.specs.Genesis.{genesis_block}
@@ -8,10 +8,10 @@ use Rattle.ord_types.specs.Hashes.{block_hash}
 use Rattle.ord_types.specs.Members.{how_many_in, is_in, is_raft}
 use Rattle.ord_types.specs.declared.values.Proof.TheVariants as proof_of
 use Rattle.safety_model.specs.Blocks.{Block, Config}
-use Rattle.safety_model.specs.Facts.{Cert, History, Proof, Stands, has, is_prepared, signers_of}
+use Rattle.safety_model.specs.Facts.{Cert, History, Proof, has, is_prepared, signers_of}
 use Rattle.safety_model.specs.Rules.{IsRun, is_bft_proof, quorum_of}
 use Rattle.safety_model.specs.Safety.{IsGenesis}
-use Rattle.safety_model.specs.State.{Setup, block_or, config_of, delivered, height, last_delivered, tip}
+use Rattle.safety_model.specs.State.{Setup, block_or, delivered, height, last_delivered, tip}
 use Rattle.safety_model.specs.declared.fact.Fact.TheVariants.{Delivered}
 use Rattle.safety_model.proofs.Chains.{config_stays}
 use Rattle.safety_model.proofs.Deliveries.{last_stands, or_other, tip_number}

@@ -8,17 +8,15 @@ use Rattle.ord_types.specs.Members.{is_in, is_raft}
 use Rattle.ord_types.specs.Hashes.{block_hash}
 use Rattle.safety_model.specs.Blocks.{Block, Config}
 use Rattle.safety_model.specs.Facts.{History, has, is_accepted}
-use Rattle.safety_model.specs.declared.fact.Fact.TheVariants.{Prepared}
 use Rattle.safety_model.specs.State.{Setup, height, config_of, view, left}
-use Rattle.safety_model.specs.Rules.{Allowed, quorum_of, is_backed}
+use Rattle.safety_model.specs.Rules.{quorum_of, is_backed}
 use Rattle.safety_model.proofs.Quorums.{how_many_more}
 use Rattle.safety_model.proofs.FactTests.{bytes_same}
 use Rattle.bft_wire.specs.declared.message.Message.TheVariants as message_of
-use Rattle.node_model.specs.declared.letter.Letter.{Letter}
 use Rattle.node_model.specs.Letters.{Message, is_prepare_for}
 use Rattle.node_model.specs.Leading.{Place}
 use Rattle.node_model.specs.Acts.{View, digest_if, has_prepare, is_inside_view, is_members_prepare, is_voting, preparation_due, prepares}
-use Rattle.world_safety.proofs.Standing.{IsKeptWell, Stands, Bounded, PreparationsAreAllowed}
+use Rattle.world_safety.proofs.Standing.{IsKeptWell, Stands, PreparationsAreAllowed}
 
 -- of a list whose elements all have a property, one that passes a test
 found : {X : Type 0} (test : X → Bool) (P : X → Type 0) (xs : List X) → list_any test xs ≡ true → AllByRecursion P xs → (x : X) × (test x ≡ true) × P x

@@ -1,20 +1,18 @@
 -- Every line of a script keeps a good world.
-use Rattle.std.proofs.Common.{◌≡◌, ℕ, zero, suc, ◌+◌, ◌-◌, ◌*◌, ◌^◌, ◌<◌, ◌≤◌, Bool, true, false, List, [], ◌∷◌, ◌++◌, length, map, cond, refl, sym, subst, ap, ◌∙◌, Option, Some, None, Result, Ok, Err, arith}
+use Rattle.std.proofs.Common.{◌≡◌, ℕ, zero, suc, ◌+◌, ◌-◌, ◌*◌, ◌^◌, ◌<◌, ◌≤◌, Bool, true, false, List, [], ◌∷◌, ◌++◌, length, map, cond, refl, subst, ap, ◌∙◌, Option, Some, None, Result, Ok, Err, arith}
 use Rattle.std.specs.Prelude.{◌==◌, nat_lt, IfOk, codes, position, slice_get}
 use Rattle.std.specs.List.{All, AllByRecursion, flat_map}
-use Rattle.std.proofs.lemmas.Bool.{or_right}
+use Rattle.std.proofs.lemmas.Bool.{eq-eqb, or_left, or_right}
 use Rattle.std.proofs.lemmas.List.Elements.{All-nil, All-push, All-take, All-weaker}
-use Rattle.ord_types.specs.Genesis.{genesis_block}
+use Rattle.ord_types.specs.Members.{is_in}
 use Rattle.safety_model.specs.Blocks.{Config, Request}
 use Rattle.safety_model.specs.Facts.{History}
 use Rattle.safety_model.specs.Safety.{RequestFits}
 use Rattle.safety_model.specs.State.{Setup}
 use Rattle.line_flow.specs.Lines.{lines}
 use Rattle.script.specs.Commands.{AreIds, IsId, IsWellFormed}
-use Rattle.script.specs.Grammar.{meaning}
 use Rattle.script.specs.declared.command.Command.{Command}
 use Rattle.script.specs.declared.command.Command.TheVariants.{Genesis, Submit, Tick, Deliver, Flush}
-use Rattle.script.specs.declared.command.Meaning.TheVariants.{Means}
 use Rattle.script.specs.declared.command.Range.{Range}
 use Rattle.script.proofs.CommandLemmas.{meaning_fits}
 use Rattle.script_play.specs.declared.ending.Ending.{Ending}
@@ -22,20 +20,19 @@ use Rattle.script_play.specs.declared.ending.Ending.TheVariants.{Limit}
 use Rattle.script_play.specs.Turns.{Turn}
 use Rattle.node_model.specs.Acts.{may_propose}
 use Rattle.node_model.specs.Keeping.{PastNode, past_ways}
-use Rattle.node_model.specs.Past.{Opened}
 use Rattle.node_model.specs.Steps.{Event}
 use Rattle.world_model.specs.Histories.{past_setting, worlds_of}
 use Rattle.world_model.specs.Pools.{Answer, Admitted, KnownPending, Malformed, answer, offer, pool_after}
-use Rattle.world_model.specs.Texts.{deliver_text, fact_text, flush_text, limit_text, tick_text}
-use Rattle.world_model.specs.Turns.{at_node, deliver_turn, deliveries, delivery, delivery_to, event_turn, first_config, first_world, flush_turn, flushes, goes_on, most_entries, most_flushed, ordinary, refuses, says, some_world, submit_turn, submitted, then_on, tick_at, ticks, turn_in, turn_of, within_limit}
+use Rattle.world_model.specs.Texts.{fact_text, flush_text, limit_text}
+use Rattle.world_model.specs.Turns.{at_node, deliver_turn, deliveries, delivery, delivery_to, event_turn, first_config, first_world, flush_turn, flushes, goes_on, most_entries, most_flushed, ordinary, refuses, says, some_world, submit_turn, submitted, then_on, tick_at, ticks, turn_in, turn_of}
 use Rattle.world_model.specs.Worlds.{Entry, Node, World, entry, is_waiting, letter_from, making, marked, node_at, offer_to, tick_of, world_after}
-use Rattle.world_safety.specs.Resting.{has_ground}
-use Rattle.world_safety.proofs.Lists.{all_mapped, all_of}
+use Rattle.world_safety.specs.Safe.{ids_of, setup_on}
+use Rattle.world_safety.proofs.Lists.{all_map, all_mapped}
 use Rattle.world_safety.proofs.Fits.{AreSmall}
 use Rattle.world_safety.proofs.Lines.{IsGoodAt, KeepsAt, worlds_keep_at}
 use Rattle.world_safety.proofs.Makings.{proposals_of}
 use Rattle.world_safety.proofs.Nodes.{IsGoodEvent, opened}
-use Rattle.world_safety.proofs.Worlds.{Apart, EntryIn, GoodWorld, NodeIn, all_set, ascending_apart, event_keeps, found_entry, found_node, ids_of, with_ids, with_new, world_more}
+use Rattle.world_safety.proofs.Worlds.{EntryIn, GoodWorld, NodeIn, all_set, event_keeps, found_entry, found_node, nodes_apart, with_ids, with_new, world_more}
 
 -- a world, in the turn that leads to it
 abbrev Leads : {W : Type 0} → (W → Type 0) → Turn W → Type 0
@@ -64,8 +61,9 @@ module _ (su : Setup) (number : ℕ) where
     where
       after : World PastNode History
       after = world_after past_setting w node (making past_setting w node event)
+
       go : (t : Bool) → Leads (GoodWorld su (most + proposals_of event)) (cond t (record { printed = flat_map (fact_text number) (making past_setting w node event).facts ++ limit_text number most_entries; next = Err (Limit most_entries) })
-        (says (flat_map (fact_text number) (making past_setting w node event).facts) after))
+          (says (flat_map (fact_text number) (making past_setting w node event).facts) after))
       go true = tt
       go false = event_keeps su most w node event good is brought
 
@@ -95,11 +93,13 @@ module _ (su : Setup) (number : ℕ) where
   marked_good : (most : ℕ) (k : ℕ) (e : Entry) (w : World PastNode History) → GoodWorld su most w → EntryIn w.told e → GoodWorld su most (marked k e w)
   marked_good most k e w good is =
       record {
+        first = good.first;
+        ids = good.ids;
         honest = good.honest;
         run = good.run;
         within = good.within;
         members = good.members;
-        apart = good.apart;
+        actors = good.actors;
         nodes = good.nodes;
         network = all_set (EntryIn w.told) w.network k (record e { came = true }) good.network (record { ground = is.ground; fits = is.fits });
       }
@@ -167,13 +167,15 @@ module _ (su : Setup) (number : ℕ) where
   submit_leads most w node r fits good is =
       let new = submitted node r in
       record {
+        first = good.first;
+        ids = good.ids;
         honest = good.honest;
         run = good.run;
         within = good.within;
         members = with_ids new w.nodes ∙ good.members;
-        apart = good.apart;
+        actors = good.actors;
         nodes = with_new su w.told w.told new (λ other not_it before. before)
-          (record { setup = is.setup; id = is.id; stands = is.stands; pool = pool_fits node.pool r (answer node.pool r) is.pool fits }) w.nodes (subst Apart (sym good.members) good.apart) good.nodes;
+            (record { setup = is.setup; id = is.id; member = is.member; stands = is.stands; pool = pool_fits node.pool r (answer node.pool r) is.pool fits }) w.nodes (nodes_apart su most w good) good.nodes;
         network = good.network;
       }
 
@@ -208,25 +210,28 @@ same_ids : (c : Config) (ids : List ℕ) → ids_of (map (λ id. record { id = i
 same_ids c [] = refl
 same_ids c (id ∷ ids) = ap (λ more. id ∷ more) (same_ids c ids)
 
-first_setup : Config → Setup
-first_setup c = record { genesis = genesis_block c; config = c; byzantine = [] }
+members_in : (ids members : List ℕ) → ((id : ℕ) → is_in id ids ≡ true → is_in id members ≡ true) → AllByRecursion (λ id. is_in id members ≡ true) ids
+members_in [] members within = tt
+members_in (id ∷ ids) members within = (within id (or_left _ _ (eq-eqb id id refl)), members_in ids members (λ other is. within other (or_right _ _ is)))
 
 members_small : (members : List ℕ) → AreIds members → AreSmall members
 members_small members are = All-weaker IsId (λ id. id < 2 ^ 32) (λ id is. (let below = is.below in omega arith)) members are.each
 
-first_good : (most : ℕ) (members : List ℕ) → AreIds members → GoodWorld (first_setup (first_config members)) most (first_world past_setting (first_config members))
-unfolding first_setup
+first_good : (most : ℕ) (members : List ℕ) → AreIds members → GoodWorld (setup_on (first_config members)) most (first_world past_setting (first_config members))
 first_good most members are =
     let c = first_config members in
-    let su = first_setup c in
+    let su = setup_on c in
+    let node : ℕ → Node PastNode = λ id. record { id = id; state = past_setting.ways.opens c id; pool = [] } in
     record {
+      first = refl;
+      ids = are;
       honest = record { genesis = record { block = refl; bft = refl }; correct = refl; small = members_small members are };
       run = tt;
       within = tt;
       members = same_ids c members;
-      apart = ascending_apart members are.ascending;
-      nodes = all_mapped (NodeIn su []) (λ id. record { id = id; state = past_setting.ways.opens c id; pool = [] }) members
-        (all_of (λ id. NodeIn su [] (record { id = id; state = past_setting.ways.opens c id; pool = [] })) (λ id. record { setup = refl; id = refl; stands = opened su id; pool = All-nil RequestFits }) members);
+      actors = tt;
+      nodes = all_mapped (NodeIn su []) node members
+          (all_map (λ id. is_in id members ≡ true) (λ id. NodeIn su [] (node id)) (λ id is. record { setup = refl; id = refl; member = is; stands = opened su id; pool = All-nil RequestFits }) members (members_in members members (λ id is. is)));
       network = tt;
     }
 
@@ -241,7 +246,7 @@ IsGoodIn number (Some w) = IsGood number w
 
 turn_leads : (o : Option (World PastNode History)) (number : ℕ) (command : Command) → IsWellFormed command → IsGoodIn number o → Leads (IsGoodIn (number + 1)) (turn_of past_setting o number command)
 unfolding turn_of
-turn_leads None number (Genesis members) formed good = record { setup = first_setup (first_config members); good = first_good (10000 * (number + 1)) members formed }
+turn_leads None number (Genesis members) formed good = record { setup = setup_on (first_config members); good = first_good (10000 * (number + 1)) members formed }
 turn_leads None number (Submit id client serial payload) formed good = tt
 turn_leads None number (Tick id count) formed good = tt
 turn_leads None number (Deliver ranges) formed good = tt
@@ -263,7 +268,7 @@ commands_keep : KeepsAt (turn_of past_setting) IsGoodIn
 commands_keep =
     record {
       command = λ world next number line command means good is.
-        led (IsGoodIn (number + 1)) (turn_of past_setting world number command).next next (turn_leads world number command (meaning_fits line command means) good) is;
+          led (IsGoodIn (number + 1)) (turn_of past_setting world number command).next next (turn_leads world number command (meaning_fits line command means) good) is;
       nothing = λ world number good. good_later number world good;
     }
 

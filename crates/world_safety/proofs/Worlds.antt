@@ -1,24 +1,28 @@
 -- Every event keeps a world in which the nodes' facts are a run and the messages rest on them.
-use Rattle.std.proofs.Common.{◌≡◌, ℕ, zero, suc, ◌+◌, ◌<◌, ◌≤◌, Bool, true, false, ◌||◌, List, [], ◌∷◌, ◌++◌, length, map, reverse, cond, refl, sym, subst, ap, ◌∙◌, Option, Some, None, get_or, set, arith}
+use Rattle.std.proofs.Common.{◌≡◌, ℕ, zero, suc, ◌+◌, ◌<◌, ◌≤◌, Bool, true, false, List, [], ◌∷◌, ◌++◌, length, reverse, cond, refl, sym, subst, ap, ◌∙◌, Some, get_or, set, arith}
 use Rattle.std.specs.Prelude.{◌==◌, not, slice_get}
 use Rattle.std.specs.List.{All, AllByRecursion, AllPairs, find, flat_map}
 use Rattle.std.specs.List.Sorted.{IsStrictlyIncreasing}
-use Rattle.std.proofs.lemmas.Bool.{eq-eqb, eqb-true, false_from_ne_true, or_right}
+use Rattle.std.proofs.lemmas.Bool.{eq-eqb, eqb-true, false_from_ne_true}
 use Rattle.std.proofs.lemmas.List.Elements.{All-filter}
 use Rattle.std.proofs.lemmas.List.Kept.{AllPairs-from_increasing}
+use Rattle.ord_types.specs.Members.{is_in}
 use Rattle.safety_model.specs.Facts.{History}
 use Rattle.safety_model.specs.declared.fact.Fact.{Fact}
 use Rattle.safety_model.specs.State.{Setup}
 use Rattle.safety_model.specs.Rules.{IsRun, actor}
 use Rattle.safety_model.specs.Safety.{RequestFits}
+use Rattle.script.specs.Commands.{AreIds}
 use Rattle.node_model.specs.Letters.{Message}
 use Rattle.node_model.specs.Past.{Past}
-use Rattle.node_model.specs.Keeping.{PastNode, past_ways}
-use Rattle.node_model.specs.Steps.{Event, Making, Post}
+use Rattle.node_model.specs.Keeping.{PastNode}
+use Rattle.node_model.specs.Steps.{Event, Post}
 use Rattle.world_model.specs.Histories.{past_setting}
 use Rattle.world_model.specs.Pools.{has_id}
-use Rattle.world_model.specs.Worlds.{Entry, Node, World, keys_of, letter_from, making, node_after, requests_in, sent_by, with_node, world_after}
+use Rattle.world_model.specs.Turns.{first_config}
+use Rattle.world_model.specs.Worlds.{Entry, Node, World, keys_of, making, node_after, requests_in, sent_by, with_node, world_after}
 use Rattle.world_safety.specs.Resting.{has_ground}
+use Rattle.world_safety.specs.Safe.{ids_of, setup_on}
 use Rattle.world_safety.proofs.Lists.{all_append, all_map, all_mapped, all_reverse}
 use Rattle.world_safety.proofs.Fits.{FactIn}
 use Rattle.world_safety.proofs.Makings.{IsGoodMessage, IsGoodPost, MakingStands, next_stands, proposals_of, told, within_more}
@@ -29,6 +33,7 @@ use Rattle.world_safety.proofs.Nodes.{IsGoodEvent, NodeStands, ground_more, othe
 pub record NodeIn (su : Setup) (h : History) (node : Node PastNode) : Type 0 where
   pub setup : node.state.setup ≡ su
   pub id : node.state.id ≡ node.id
+  pub member : is_in node.id su.config.members ≡ true
   pub stands : NodeStands su h node.id node.state.past
   pub pool : All RequestFits node.pool
 
@@ -41,16 +46,15 @@ abbrev pub Apart : List ℕ → Type 0
 Apart [] = Unit {0}
 Apart (x ∷ xs) = AllByRecursion (λ y. (y == x) ≡ false) xs × Apart xs
 
-abbrev pub ids_of : List (Node PastNode) → List ℕ
-ids_of nodes = map (λ node. node.id) nodes
-
 -- a world in which numbers up to most were proposed
 pub record GoodWorld (su : Setup) (most : ℕ) (w : World PastNode History) : Type 0 where
+  pub first : su ≡ setup_on (first_config su.config.members)
+  pub ids : AreIds su.config.members
   pub honest : IsHonest su
   pub run : IsRun su w.told
   pub within : AllByRecursion (FactIn most) w.told
   pub members : ids_of w.nodes ≡ su.config.members
-  pub apart : Apart su.config.members
+  pub actors : AllByRecursion (λ f. is_in (actor f) su.config.members ≡ true) w.told
   pub nodes : AllByRecursion (NodeIn su w.told) w.nodes
   pub network : AllByRecursion (EntryIn w.told) w.network
 
@@ -66,8 +70,11 @@ pairs_apart : (xs : List ℕ) → AllPairs (λ x y. x < y) xs → Apart xs
 pairs_apart [] all = tt
 pairs_apart (x ∷ xs) all = (above x xs (λ j d lt. all 0 (suc j) d (omega arith) (omega arith)), pairs_apart xs (λ i j d lt le. all (suc i) (suc j) d (omega arith) (omega arith)))
 
-pub ascending_apart : (xs : List ℕ) → IsStrictlyIncreasing xs → Apart xs
+ascending_apart : (xs : List ℕ) → IsStrictlyIncreasing xs → Apart xs
 ascending_apart xs up = pairs_apart xs (AllPairs-from_increasing xs up)
+
+pub nodes_apart : (su : Setup) (most : ℕ) (w : World PastNode History) → GoodWorld su most w → Apart (ids_of w.nodes)
+nodes_apart su most w good = subst Apart (sym good.members) (ascending_apart su.config.members good.ids.ascending)
 
 -- FACTS OF ONE NODE, one after the other
 
@@ -125,27 +132,32 @@ event_keeps su most w node event good is brought =
     let sent = all_mapped (EntryIn g) (λ (post : Post). record { from = i; to = post.to; message = post.message; came = false }) m.posts posts in
     let delivered = flat_map requests_in m.facts in
     record {
+      first = good.first;
+      ids = good.ids;
       honest = good.honest;
       run = run;
       within = st.within;
       members = with_ids new w.nodes ∙ good.members;
-      apart = good.apart;
+      actors = all_append (λ f. is_in (actor f) su.config.members ≡ true) (reverse m.facts) h
+          (all_map (λ f. (actor f == i) ≡ true) (λ f. is_in (actor f) su.config.members ≡ true) (λ f mine. subst (λ id. is_in id su.config.members ≡ true) (sym (eqb-true (actor f) i mine)) is.member) (reverse m.facts) acts) good.actors;
       nodes = with_new su h g new
-        (λ other not_it before. record { setup = before.setup; id = before.id; stands = other_over su h i other.id other.state.past (reverse m.facts) acts not_it before.stands; pool = before.pool })
-        (record { setup = st.setup; id = st.id; stands = mine; pool = All-filter (λ r. not (has_id r.id delivered)) RequestFits node.pool is.pool }) w.nodes (subst Apart (sym good.members) good.apart) good.nodes;
+          (λ other not_it before. record { setup = before.setup; id = before.id; member = before.member; stands = other_over su h i other.id other.state.past (reverse m.facts) acts not_it before.stands; pool = before.pool })
+          (record { setup = st.setup; id = st.id; member = is.member; stands = mine; pool = All-filter (λ r. not (has_id r.id delivered)) RequestFits node.pool is.pool }) w.nodes (nodes_apart su most w good) good.nodes;
       network = all_append (EntryIn g) w.network (sent_by i m.posts)
-        (all_map (EntryIn h) (EntryIn g) (λ e p. record { ground = ground_over h (reverse m.facts) e.from e.message p.ground; fits = p.fits }) w.network good.network) sent;
+          (all_map (EntryIn h) (EntryIn g) (λ e p. record { ground = ground_over h (reverse m.facts) e.from e.message p.ground; fits = p.fits }) w.network good.network) sent;
     }
 
 -- more may have been proposed
 pub world_more : (su : Setup) (most more : ℕ) (w : World PastNode History) → most ≤ more → GoodWorld su most w → GoodWorld su more w
 world_more su most more w le good =
     record {
+      first = good.first;
+      ids = good.ids;
       honest = good.honest;
       run = good.run;
       within = within_more most more le w.told good.within;
       members = good.members;
-      apart = good.apart;
+      actors = good.actors;
       nodes = good.nodes;
       network = good.network;
     }

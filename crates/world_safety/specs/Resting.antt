@@ -1,5 +1,5 @@
 -- What a member's messages rest on, and the facts of one node.
-use Rattle.std.specs.Prelude.{ℕ, ◌==◌, Bool, List, [], ◌∷◌, if◌then◌else◌}
+use Rattle.std.specs.Prelude.{ℕ, ◌==◌, Bool, [], ◌∷◌, if◌then◌else◌}
 use Rattle.ord_types.specs.Hashes.{block_hash}
 use Rattle.safety_model.specs.Facts.{History, has, is_accepted, is_prepared}
 use Rattle.safety_model.specs.Rules.{actor}
