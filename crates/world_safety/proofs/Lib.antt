@@ -1,0 +1,15 @@
+pub mod Lists
+pub mod Fits
+pub mod Standing
+pub mod Fitting
+pub mod Accepting
+pub mod Preparing
+pub mod Delivering
+pub mod Own
+pub mod Nodes
+pub mod Placing
+pub mod Makings
+pub mod Worlds
+pub mod Lines
+pub mod Turns
+pub mod Safety

@@ -1,0 +1,183 @@
+-- Every event keeps a world in which the nodes' facts are a run and the messages rest on them.
+use Rattle.std.proofs.Common.{◌≡◌, ℕ, zero, suc, ◌+◌, ◌<◌, ◌≤◌, Bool, true, false, List, [], ◌∷◌, ◌++◌, length, reverse, cond, refl, sym, subst, ap, ◌∙◌, Some, get_or, set, arith}
+use Rattle.std.specs.Prelude.{◌==◌, not, slice_get}
+use Rattle.std.specs.List.{All, AllByRecursion, AllPairs, find, flat_map}
+use Rattle.std.specs.List.Sorted.{IsStrictlyIncreasing}
+use Rattle.std.proofs.lemmas.Bool.{eq-eqb, eqb-true, false_from_ne_true}
+use Rattle.std.proofs.lemmas.List.Elements.{All-filter}
+use Rattle.std.proofs.lemmas.List.Kept.{AllPairs-from_increasing}
+use Rattle.ord_types.specs.Members.{is_in}
+use Rattle.safety_model.specs.Facts.{History}
+use Rattle.safety_model.specs.declared.fact.Fact.{Fact}
+use Rattle.safety_model.specs.State.{Setup}
+use Rattle.safety_model.specs.Rules.{IsRun, actor}
+use Rattle.safety_model.specs.Safety.{RequestFits}
+use Rattle.script.specs.Commands.{AreIds}
+use Rattle.node_model.specs.Letters.{Message}
+use Rattle.node_model.specs.Past.{Past}
+use Rattle.node_model.specs.Keeping.{PastNode}
+use Rattle.node_model.specs.Steps.{Event, Post}
+use Rattle.world_model.specs.Histories.{past_setting}
+use Rattle.world_model.specs.Pools.{has_id}
+use Rattle.world_model.specs.Turns.{first_config}
+use Rattle.world_model.specs.Worlds.{Entry, Node, World, keys_of, making, node_after, requests_in, sent_by, with_node, world_after}
+use Rattle.world_safety.specs.Resting.{has_ground}
+use Rattle.world_safety.specs.Safe.{ids_of, setup_on}
+use Rattle.world_safety.proofs.Lists.{all_append, all_map, all_mapped, all_reverse}
+use Rattle.world_safety.proofs.Fits.{FactIn}
+use Rattle.world_safety.proofs.Makings.{IsGoodMessage, IsGoodPost, MakingStands, next_stands, proposals_of, told, within_more}
+use Rattle.world_safety.proofs.Placing.{IsHonest}
+use Rattle.world_safety.proofs.Nodes.{IsGoodEvent, NodeStands, ground_more, other_did}
+
+-- a node of the world, where these are all facts
+pub record NodeIn (su : Setup) (h : History) (node : Node PastNode) : Type 0 where
+  pub setup : node.state.setup ≡ su
+  pub id : node.state.id ≡ node.id
+  pub member : is_in node.id su.config.members ≡ true
+  pub stands : NodeStands su h node.id node.state.past
+  pub pool : All RequestFits node.pool
+
+-- an entry rests on a fact of its sender, and what it proposes fits
+abbrev pub EntryIn : History → Entry → Type 0
+EntryIn h e = IsGoodMessage h e.from e.message
+
+-- no two ids are equal
+abbrev pub Apart : List ℕ → Type 0
+Apart [] = Unit {0}
+Apart (x ∷ xs) = AllByRecursion (λ y. (y == x) ≡ false) xs × Apart xs
+
+-- a world in which numbers up to most were proposed
+pub record GoodWorld (su : Setup) (most : ℕ) (w : World PastNode History) : Type 0 where
+  pub first : su ≡ setup_on (first_config su.config.members)
+  pub ids : AreIds su.config.members
+  pub honest : IsHonest su
+  pub run : IsRun su w.told
+  pub within : AllByRecursion (FactIn most) w.told
+  pub members : ids_of w.nodes ≡ su.config.members
+  pub actors : AllByRecursion (λ f. is_in (actor f) su.config.members ≡ true) w.told
+  pub nodes : AllByRecursion (NodeIn su w.told) w.nodes
+  pub network : AllByRecursion (EntryIn w.told) w.network
+
+-- MEMBERS IN ASCENDING ORDER ARE APART
+
+above : (x : ℕ) (xs : List ℕ) → ((j : ℕ) (d : ℕ) → j < length xs → x < get_or xs j d) → AllByRecursion (λ y. (y == x) ≡ false) xs
+above x [] f = tt
+above x (y ∷ ys) f =
+    let lt : x < y = f 0 y (omega arith) in
+    (false_from_ne_true (y == x) (λ is. let same = eqb-true y x is in omega arith), above x ys (λ j d k. f (suc j) d (omega arith)))
+
+pairs_apart : (xs : List ℕ) → AllPairs (λ x y. x < y) xs → Apart xs
+pairs_apart [] all = tt
+pairs_apart (x ∷ xs) all = (above x xs (λ j d lt. all 0 (suc j) d (omega arith) (omega arith)), pairs_apart xs (λ i j d lt le. all (suc i) (suc j) d (omega arith) (omega arith)))
+
+ascending_apart : (xs : List ℕ) → IsStrictlyIncreasing xs → Apart xs
+ascending_apart xs up = pairs_apart xs (AllPairs-from_increasing xs up)
+
+pub nodes_apart : (su : Setup) (most : ℕ) (w : World PastNode History) → GoodWorld su most w → Apart (ids_of w.nodes)
+nodes_apart su most w good = subst Apart (sym good.members) (ascending_apart su.config.members good.ids.ascending)
+
+-- FACTS OF ONE NODE, one after the other
+
+ground_over : (h : History) (fs : List Fact) (from : ℕ) (m : Message) → has_ground h from m ≡ true → has_ground (fs ++ h) from m ≡ true
+ground_over h [] from m is = is
+ground_over h (f ∷ fs) from m is = ground_more (fs ++ h) f from m (ground_over h fs from m is)
+
+other_over : (su : Setup) (h : History) (i j : ℕ) (past : Past) (fs : List Fact) → AllByRecursion (λ f. (actor f == i) ≡ true) fs → (j == i) ≡ false → NodeStands su h j past → NodeStands su (fs ++ h) j past
+other_over su h i j past [] all other st = st
+other_over su h i j past (f ∷ fs) all other st =
+    let is : actor f ≡ i = eqb-true (actor f) i all.0 in
+    let not_mine : (actor f == j) ≡ false = false_from_ne_true (actor f == j) (λ y. let same : actor f ≡ j = eqb-true (actor f) j y in let yes : (j == i) ≡ true = eq-eqb j i (sym same ∙ is) in cc) in
+    other_did su (fs ++ h) j past f not_mine (other_over su h i j past fs all.1 other st)
+
+-- A NODE IN PLACE OF THE ONE OF ITS ID
+
+pub with_ids : (new : Node PastNode) (nodes : List (Node PastNode)) → ids_of (with_node new nodes) ≡ ids_of nodes
+with_ids new [] = refl
+with_ids new (node ∷ nodes) = go (node.id == new.id) refl (with_ids new nodes)
+  where
+    go : (t : Bool) → (node.id == new.id) ≡ t → ids_of (with_node new nodes) ≡ ids_of nodes → ids_of (cond t (new ∷ nodes) (node ∷ with_node new nodes)) ≡ node.id ∷ ids_of nodes
+    go true is rest = ap (λ id. id ∷ ids_of nodes) (sym (eqb-true node.id new.id is))
+    go false is rest = ap (λ ids. node.id ∷ ids) rest
+
+keep_rest : (su : Setup) (h g : History) (id : ℕ) → ((other : Node PastNode) → (other.id == id) ≡ false → NodeIn su h other → NodeIn su g other)
+    → (nodes : List (Node PastNode)) → AllByRecursion (λ y. (y == id) ≡ false) (ids_of nodes) → AllByRecursion (NodeIn su h) nodes → AllByRecursion (NodeIn su g) nodes
+keep_rest su h g id keep [] apart all = tt
+keep_rest su h g id keep (node ∷ nodes) apart all = (keep node apart.0 all.0, keep_rest su h g id keep nodes apart.1 all.1)
+
+pub with_new : (su : Setup) (h g : History) (new : Node PastNode) → ((other : Node PastNode) → (other.id == new.id) ≡ false → NodeIn su h other → NodeIn su g other) → NodeIn su g new
+    → (nodes : List (Node PastNode)) → Apart (ids_of nodes) → AllByRecursion (NodeIn su h) nodes → AllByRecursion (NodeIn su g) (with_node new nodes)
+with_new su h g new keep good [] apart all = tt
+with_new su h g new keep good (node ∷ nodes) apart all = go (node.id == new.id) refl (with_new su h g new keep good nodes apart.1 all.1)
+  where
+    go : (t : Bool) → (node.id == new.id) ≡ t → AllByRecursion (NodeIn su g) (with_node new nodes) → AllByRecursion (NodeIn su g) (cond t (new ∷ nodes) (node ∷ with_node new nodes))
+    go true is rest = (good, keep_rest su h g new.id keep nodes (subst (λ id. AllByRecursion (λ y. (y == id) ≡ false) (ids_of nodes)) (eqb-true node.id new.id is) apart.0) all.1)
+    go false is rest = (keep node is all.0, rest)
+
+-- AN EVENT
+
+pub event_keeps : (su : Setup) (most : ℕ) (w : World PastNode History) (node : Node PastNode) (event : Event) → GoodWorld su most w → NodeIn su w.told node → IsGoodEvent su w.told event
+    → GoodWorld su (most + proposals_of event) (world_after past_setting w node (making past_setting w node event))
+event_keeps su most w node event good is brought =
+    let h = w.told in
+    let m = making past_setting w node event in
+    let i = node.id in
+    let more = most + proposals_of event in
+    let st : MakingStands su i h more m = next_stands su i h good.honest most (keys_of w.seals i) node.state event is.setup is.id good.run good.within is.stands brought in
+    let g = told h m in
+    let run : IsRun su g = subst (λ su. IsRun su g) st.setup st.run in
+    let mine : NodeStands su g i m.state.past = subst (λ i. NodeStands su g i m.state.past) st.id (subst (λ su. NodeStands su g m.state.id m.state.past) st.setup st.node) in
+    let acts : AllByRecursion (λ f. (actor f == i) ≡ true) (reverse m.facts) = all_reverse (λ f. (actor f == i) ≡ true) m.facts (subst (λ i. AllByRecursion (λ f. (actor f == i) ≡ true) m.facts) st.id st.actors) in
+    let posts : AllByRecursion (IsGoodPost g i) m.posts = subst (λ i. AllByRecursion (IsGoodPost g i) m.posts) st.id st.posts in
+    let new = node_after node m in
+    let sent = all_mapped (EntryIn g) (λ (post : Post). record { from = i; to = post.to; message = post.message; came = false }) m.posts posts in
+    let delivered = flat_map requests_in m.facts in
+    record {
+      first = good.first;
+      ids = good.ids;
+      honest = good.honest;
+      run = run;
+      within = st.within;
+      members = with_ids new w.nodes ∙ good.members;
+      actors = all_append (λ f. is_in (actor f) su.config.members ≡ true) (reverse m.facts) h
+          (all_map (λ f. (actor f == i) ≡ true) (λ f. is_in (actor f) su.config.members ≡ true) (λ f mine. subst (λ id. is_in id su.config.members ≡ true) (sym (eqb-true (actor f) i mine)) is.member) (reverse m.facts) acts) good.actors;
+      nodes = with_new su h g new
+          (λ other not_it before. record { setup = before.setup; id = before.id; member = before.member; stands = other_over su h i other.id other.state.past (reverse m.facts) acts not_it before.stands; pool = before.pool })
+          (record { setup = st.setup; id = st.id; member = is.member; stands = mine; pool = All-filter (λ r. not (has_id r.id delivered)) RequestFits node.pool is.pool }) w.nodes (nodes_apart su most w good) good.nodes;
+      network = all_append (EntryIn g) w.network (sent_by i m.posts)
+          (all_map (EntryIn h) (EntryIn g) (λ e p. record { ground = ground_over h (reverse m.facts) e.from e.message p.ground; fits = p.fits }) w.network good.network) sent;
+    }
+
+-- more may have been proposed
+pub world_more : (su : Setup) (most more : ℕ) (w : World PastNode History) → most ≤ more → GoodWorld su most w → GoodWorld su more w
+world_more su most more w le good =
+    record {
+      first = good.first;
+      ids = good.ids;
+      honest = good.honest;
+      run = good.run;
+      within = within_more most more le w.told good.within;
+      members = good.members;
+      actors = good.actors;
+      nodes = good.nodes;
+      network = good.network;
+    }
+
+-- WHAT IS FOUND
+
+pub found_node : (P : Node PastNode → Type 0) (test : Node PastNode → Bool) (nodes : List (Node PastNode)) (node : Node PastNode) → AllByRecursion P nodes → find test nodes ≡ Some node → P node
+found_node P test [] node all is = absurd (cc)
+found_node P test (x ∷ xs) node all is = go (test x) is (found_node P test xs node all.1)
+  where
+    go : (t : Bool) → cond t (Some x) (find test xs) ≡ Some node → (find test xs ≡ Some node → P node) → P node
+    go true is rest = let same : x ≡ node = cc in subst P same all.0
+    go false is rest = rest is
+
+pub found_entry : (P : Entry → Type 0) (network : List Entry) (k : ℕ) (e : Entry) → AllByRecursion P network → slice_get network k ≡ Some e → P e
+found_entry P [] k e all is = absurd (cc)
+found_entry P (x ∷ xs) zero e all is = let same : x ≡ e = cc in subst P same all.0
+found_entry P (x ∷ xs) (suc k) e all is = found_entry P xs k e all.1 is
+
+pub all_set : (P : Entry → Type 0) (network : List Entry) (k : ℕ) (e : Entry) → AllByRecursion P network → P e → AllByRecursion P (set network k e)
+all_set P [] k e all good = tt
+all_set P (x ∷ xs) zero e all good = (good, all.1)
+all_set P (x ∷ xs) (suc k) e all good = (all.0, all_set P xs k e all.1 good)

@@ -1,0 +1,53 @@
+-- What is so of every world of a script: what its nodes did is a run, its messages rest on what their senders did, and so its ledgers agree.
+use Rattle.std.specs.Prelude.{◌≡◌, ℕ, List, [], map, Option, Some, None, IsTrue, ⊤}
+use Rattle.std.specs.List.{AllByRecursion}
+use Rattle.ord_types.specs.Genesis.{genesis_block}
+use Rattle.ord_types.specs.Members.{is_in}
+use Rattle.safety_model.specs.Blocks.{Config}
+use Rattle.safety_model.specs.Facts.{History}
+use Rattle.safety_model.specs.Rules.{IsRun, actor}
+use Rattle.safety_model.specs.Safety.{Agreement, NoCollision}
+use Rattle.safety_model.specs.State.{Setup}
+use Rattle.script.specs.Commands.{AreIds}
+use Rattle.node_model.specs.Keeping.{PastNode}
+use Rattle.node_model.specs.Past.{facts_of}
+use Rattle.world_model.specs.Histories.{worlds_of}
+use Rattle.world_model.specs.Turns.{first_config}
+use Rattle.world_model.specs.Worlds.{Entry, Node, World}
+use Rattle.world_safety.specs.Resting.{has_ground, own}
+
+abbrev pub ids_of : List (Node PastNode) → List ℕ
+ids_of nodes = map (λ node. node.id) nodes
+
+-- a chain that begins with the genesis block of the configuration, where nobody is Byzantine
+abbrev pub setup_on : Config → Setup
+setup_on c = record { genesis = genesis_block c; config = c; byzantine = [] }
+
+-- the world's: its members are its nodes
+abbrev pub setup_of : World PastNode History → Setup
+setup_of w = setup_on (first_config (ids_of w.nodes))
+
+-- a node of the world: the list of all facts has its own facts in their order
+pub record IsNodeOf (su : Setup) (told : History) (node : Node PastNode) : Type 0 where
+  pub setup : node.state.setup ≡ su
+  pub id : node.state.id ≡ node.id
+  pub facts : own node.id told ≡ facts_of node.state.past
+
+-- What the nodes did, and nobody else did anything, is a run by the rules, in the order in which they did it. Every
+-- message that was sent rests on a fact of its sender. So the ledgers agree, where no two texts collide.
+pub record IsSafeWorld (w : World PastNode History) : Type 0 where
+  pub members : AreIds (ids_of w.nodes)
+  pub nodes : AllByRecursion (IsNodeOf (setup_of w) w.told) w.nodes
+  pub actors : AllByRecursion (λ f. IsTrue (is_in (actor f) (ids_of w.nodes))) w.told
+  pub run : IsRun (setup_of w) w.told
+  pub resting : AllByRecursion (λ (e : Entry). IsTrue (has_ground w.told e.from e.message)) w.network
+  pub agreement : NoCollision (setup_of w) w.told → Agreement (setup_of w) w.told
+
+-- nothing is said where there is no world yet
+abbrev pub IsSafe : Option (World PastNode History) → Type 0
+IsSafe None = ⊤
+IsSafe (Some w) = IsSafeWorld w
+
+-- every world of every script is safe
+abbrev pub EveryWorldIsSafe : Type 0
+EveryWorldIsSafe = (script : List ℕ) → AllByRecursion IsSafe (worlds_of [] script)
