@@ -11,6 +11,7 @@ mod log;
 mod tests;
 mod widths;
 
+pub use blocks::{has_room, have_room, is_next};
 pub use fact::Fact;
 pub use log::{FactLog, FactRefusal};
 
