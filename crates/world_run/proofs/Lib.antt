@@ -1,0 +1,3 @@
+pub mod GoingLemmas
+pub mod ListLemmas
+pub mod StepLemmas
