@@ -6,6 +6,7 @@ ghost use Rattle.ord_types.specs.declared.values.Proof.TheVariants as proof_of;
 ghost use Rattle.safety_model.specs.Facts.{signers_of};
 ghost use Rattle.world_model.specs.Texts.{
   admitted_text,
+  answer_text,
   block_front_text,
   block_text,
   deliver_text,
@@ -26,7 +27,9 @@ ghost use Rattle.world_model.specs.Texts.{
   tick_text,
   view_text,
 };
+ghost use Rattle.world_run.specs.Answers.{answer_of};
 
+use crate::pool::Answer;
 use ord_types::{Block, Cert, ReqId, Request, Sig};
 use std::alloc::AllocError;
 
@@ -73,14 +76,14 @@ pub(crate) fn put_limit(text: &mut String, number: u64, limit: u64) -> Result<()
 }
 
 #[tactic(auto, unfolding(world_model::specs::Texts::admitted_text))]
-pub(crate) fn put_admitted(text: &mut String, number: u64, node: u32) -> Result<(), AllocError>
+fn put_admitted(text: &mut String, number: u64, node: u32) -> Result<(), AllocError>
     ensures { OnOk result (string_bytes text.new ≡ string_bytes text.old ++ admitted_text number node) }
 {
     write!(text, "{number} submit {node} admitted\n")
 }
 
 #[tactic(auto, unfolding(world_model::specs::Texts::malformed_text))]
-pub(crate) fn put_malformed(
+fn put_malformed(
     text: &mut String,
     number: u64,
     node: u32,
@@ -92,10 +95,26 @@ pub(crate) fn put_malformed(
 }
 
 #[tactic(auto, unfolding(world_model::specs::Texts::pending_text))]
-pub(crate) fn put_pending(text: &mut String, number: u64, node: u32) -> Result<(), AllocError>
+fn put_pending(text: &mut String, number: u64, node: u32) -> Result<(), AllocError>
     ensures { OnOk result (string_bytes text.new ≡ string_bytes text.old ++ pending_text number node) }
 {
     write!(text, "{number} submit {node} known pending\n")
+}
+
+/// What a pool answered.
+pub(crate) fn put_answer(
+    text: &mut String,
+    number: u64,
+    node: u32,
+    answer: Answer,
+) -> Result<(), AllocError>
+    ensures { OnOk result (string_bytes text.new ≡ string_bytes text.old ++ answer_text number node (answer_of answer)) }
+{
+    match answer {
+        Answer::Admitted => put_admitted(text, number, node),
+        Answer::Malformed(at) => put_malformed(text, number, node, at),
+        Answer::KnownPending => put_pending(text, number, node),
+    }
 }
 
 #[tactic(auto, unfolding(world_model::specs::Texts::block_front_text))]

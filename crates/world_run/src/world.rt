@@ -26,10 +26,9 @@ ghost use Rattle.world_run.specs.Going.{have_come};
 
 use crate::network::Entry;
 use crate::node::{Node, Outside};
-use crate::pool::{Answer, submit};
+use crate::pool::submit;
 use crate::texts::{
-    put_admitted, put_deliver, put_flush, put_limit, put_malformed, put_node, put_pending,
-    put_refused, put_sent, put_tick,
+    put_answer, put_deliver, put_flush, put_limit, put_node, put_refused, put_sent, put_tick,
 };
 use bft_wire::Message;
 use ord_types::{Batch, Bytes, Config, Kind, List, Mode, NoMemory, ReqId, ReqKind, Request};
@@ -307,13 +306,7 @@ impl World {
         let kind = ReqKind::Ordinary;
         let node = &mut self.nodes[place];
         let answer = submit(&mut node.pool, Request { kind, id, payload })?;
-        let number = self.outside.number;
-        let text = &mut self.outside.text;
-        match answer {
-            Answer::Admitted => put_admitted(text, number, to)?,
-            Answer::Malformed(at) => put_malformed(text, number, to, at)?,
-            Answer::KnownPending => put_pending(text, number, to)?,
-        }
+        put_answer(&mut self.outside.text, self.outside.number, to, answer)?;
         Ok(())
     }
 
