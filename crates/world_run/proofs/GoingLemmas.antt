@@ -9,6 +9,9 @@ use Rattle.world_run.specs.Going.{Goes}
 pub Turned-same : {W : Type 0} (t u : Turn W) (before after : List ℕ) (world : W) (ending : Option Ending) → t ≡ u → Turned t before after world ending → Turned u before after world ending
 Turned-same {W} t u before after world ending e turned = subst (λ (v : Turn W). Turned v before after world ending) e turned
 
+pub Goes-same : {W : Type 0} (t u : Turn W) (before now : List ℕ) (rest : Turn W) → t ≡ u → Goes t before now rest → Goes u before now rest
+Goes-same {W} t u before now rest e goes = subst (λ (v : Turn W). Goes v before now rest) e goes
+
 -- at the beginning the whole turn is left
 pub Goes-start : {W : Type 0} (whole : Turn W) (before : List ℕ) → Goes whole before before whole
 Goes-start whole before = record { printed = refl; next = refl }

@@ -1,3 +1,7 @@
+pub mod DeliverLemmas
 pub mod GoingLemmas
 pub mod ListLemmas
+pub mod RangeLemmas
 pub mod StepLemmas
+pub mod SubmitLemmas
+pub mod TickLemmas

@@ -1,5 +1,5 @@
 -- Lemmas on finding and replacing one of a list, and on entries that have come.
-use Rattle.std.proofs.Common.{◌≡◌, ℕ, zero, suc, ◌+◌, ◌<◌, ◌≤◌, Bool, true, false, not, cond, eqb, ltb, List, [], ◌∷◌, ◌++◌, length, map, take, get_or, set, position, slice_get, Option, Some, None, refl, sym, ap, ◌∙◌, arith}
+use Rattle.std.proofs.Common.{◌≡◌, ℕ, zero, suc, ◌+◌, ◌<◌, ◌≤◌, Bool, true, false, not, cond, eqb, ltb, List, [], ◌∷◌, ◌++◌, length, map, take, get_or, set, position, slice_get, Option, Some, None, inl, inr, refl, sym, ap, ◌∙◌, arith}
 use Rattle.std.specs.Option.{option_map}
 use Rattle.std.proofs.lemmas.Bool.{eqb-true}
 use Rattle.node_model.specs.Cores.{Core}
@@ -8,7 +8,7 @@ use Rattle.std.proofs.lemmas.Bool.Decides.{nat_tests}
 use Rattle.std.proofs.lemmas.List.{take-append-le, take-map, length-map, length-append}
 use Rattle.std.proofs.lemmas.List.Folds.{find_at, list_all-map}
 use Rattle.std.proofs.lemmas.List.Quantifiers.{position-Some}
-use Rattle.std.proofs.lemmas.Option.{cond_some, slice_get-get_or, slice_get_past}
+use Rattle.std.proofs.lemmas.Option.{cond_some, same_Some, slice_get-get_or, slice_get-map, slice_get_cases, slice_get_past, slice_get_read}
 use Rattle.world_model.specs.Worlds as worlds
 use Rattle.world_run.specs.Entries.{entry_of}
 use Rattle.world_run.specs.Going.{have_come}
@@ -41,6 +41,25 @@ node_at_place id nodes place d h =
 
 pub node_at_read : (id : ℕ) (nodes : List Node) (place : ℕ) (node : Node) → HasPlace id nodes place → node ≡ get_or nodes place node → worlds.node_at id (map node_of nodes) ≡ Some (node_of node)
 node_at_read id nodes place node h is = node_at_place id nodes place node h ∙ ap (λ (n : Node). Some (node_of n)) (sym is)
+
+within_from_some : (at n place : ℕ) → cond (ltb at n) (Some at) None ≡ Some place → place < n
+within_from_some at n place h = let parts = cond_some _ _ _ h in grind (arith, nat_tests)
+
+-- what stands at a place within a list
+pub item_at : {X : Type 0} (xs : List X) (i : ℕ) → i < length xs → (x : X) × (slice_get xs i ≡ Some x)
+item_at xs i within = elim (slice_get_cases xs i).1 [ inl found ↦ (found.0, found.2) | inr past ↦ absurd (omega (arith, past.0)) ]
+
+-- a node that has a place is found
+pub node_at_some : (id : ℕ) (nodes : List Node) (place : ℕ) → HasPlace id nodes place → (node : Node) × (worlds.node_at id (map node_of nodes) ≡ Some (node_of node))
+node_at_some id nodes place h =
+    let at = (cond_some _ _ _ h).1 in
+    let here = item_at nodes place (within_from_some (position_or_len (λ (node : Node). eqb node.id id) nodes) (length nodes) place h) in
+    (here.0, find-map node_of (λ node. eqb node.id id) nodes ∙ ap (option_map node_of) (find_at (λ (node : Node). eqb node.id id) nodes ∙ ap (slice_get nodes) at ∙ here.1))
+
+-- the entry that was read is the one that the world has there
+pub entry_read : (network : List Entry) (at : ℕ) (read : Entry) (e : worlds.Entry) → at < length network → read ≡ get_or network at read → slice_get (map entry_of network) at ≡ Some e → entry_of read ≡ e
+entry_read network at read e within is has =
+    same_Some (entry_of read) e (sym (slice_get-map entry_of network at ∙ ap (option_map entry_of) (slice_get_read network (length network) at read refl within is)) ∙ has)
 
 pub node_at_none : (id : ℕ) (nodes : List Node) → position (λ (node : Node). eqb node.id id) nodes ≡ None → worlds.node_at id (map node_of nodes) ≡ None
 node_at_none id nodes h =
