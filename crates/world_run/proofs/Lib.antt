@@ -1,4 +1,5 @@
 pub mod DeliverLemmas
+pub mod FlushLemmas
 pub mod GoingLemmas
 pub mod ListLemmas
 pub mod RangeLemmas

@@ -56,10 +56,13 @@ node_at_some id nodes place h =
     let here = item_at nodes place (within_from_some (position_or_len (λ (node : Node). eqb node.id id) nodes) (length nodes) place h) in
     (here.0, find-map node_of (λ node. eqb node.id id) nodes ∙ ap (option_map node_of) (find_at (λ (node : Node). eqb node.id id) nodes ∙ ap (slice_get nodes) at ∙ here.1))
 
+pub entry_has : (network : List Entry) (at : ℕ) (read : Entry) → at < length network → read ≡ get_or network at read → slice_get (map entry_of network) at ≡ Some (entry_of read)
+entry_has network at read within is = slice_get-map entry_of network at ∙ ap (option_map entry_of) (slice_get_read network (length network) at read refl within is)
+
 -- the entry that was read is the one that the world has there
 pub entry_read : (network : List Entry) (at : ℕ) (read : Entry) (e : worlds.Entry) → at < length network → read ≡ get_or network at read → slice_get (map entry_of network) at ≡ Some e → entry_of read ≡ e
 entry_read network at read e within is has =
-    same_Some (entry_of read) e (sym (slice_get-map entry_of network at ∙ ap (option_map entry_of) (slice_get_read network (length network) at read refl within is)) ∙ has)
+    same_Some (entry_of read) e (sym (entry_has network at read within is) ∙ has)
 
 pub node_at_none : (id : ℕ) (nodes : List Node) → position (λ (node : Node). eqb node.id id) nodes ≡ None → worlds.node_at id (map node_of nodes) ≡ None
 node_at_none id nodes h =
