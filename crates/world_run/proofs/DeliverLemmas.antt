@@ -1,13 +1,13 @@
 -- Lemmas on the delivery of an entry.
-use Rattle.std.proofs.Common.{◌≡◌, ℕ, ◌<◌, List, ◌++◌, length, map, get_or, set, slice_get, position, eqb, true, Option, Some, None, Ok, [], refl, sym, ap, ◌∙◌}
+use Rattle.std.proofs.Common.{◌≡◌, ℕ, ◌<◌, List, length, map, get_or, set, slice_get, position, eqb, true, Option, Some, None, Ok, [], refl, sym, ap, ◌∙◌}
 use Rattle.std.proofs.lemmas.List.{append-nil, map-set}
 use Rattle.bft_wire.specs.declared.message.Message.{Message}
 use Rattle.node_model.specs.Cores.{Core}
 use Rattle.node_model.specs.Steps.{FromMember}
 use Rattle.script_play.specs.declared.ending.Ending.{Ending}
-use Rattle.script_play.specs.Turns.{Turn, Turned}
+use Rattle.script_play.specs.Turns.{Turned}
 use Rattle.world_model.specs.Cores.{core_setting}
-use Rattle.world_model.specs.Turns.{delivery, delivery_to, event_turn}
+use Rattle.world_model.specs.Turns.{delivery, event_turn}
 use Rattle.world_model.specs.Worlds as worlds
 use Rattle.world_run.specs.Entries.{entry_of}
 use Rattle.world_run.specs.Mapped.{world_of}
@@ -47,7 +47,7 @@ delivered_nowhere w number at read e text within is nowhere has =
 pub delivered_to_node : (w : World) (number at place : ℕ) (read : Entry) (message : Message) (e : worlds.Entry) (before after : List ℕ) (next : worlds.World Core (Unit {0})) (ending : Option Ending)
     → at < length w.outside.network.items → read ≡ get_or w.outside.network.items at read → HasPlace read.to w.nodes.items place → message ≡ read.message.value
     → ((node : worlds.Node Core) → worlds.node_at read.to (map node_of w.nodes.items) ≡ Some node
-      → Turned (event_turn core_setting number (with_arrived w at read) node (FromMember (record { from = read.from; message = message }))) before after next ending)
+    → Turned (event_turn core_setting number (with_arrived w at read) node (FromMember (record { from = read.from; message = message }))) before after next ending)
     → slice_get (map entry_of w.outside.network.items) at ≡ Some e
     → Turned (delivery core_setting number at e (world_of w)) before after next ending
 delivered_to_node w number at place read message e before after next ending within is has_place same taken has =

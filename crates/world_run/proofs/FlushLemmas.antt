@@ -1,8 +1,8 @@
 -- Lemmas on a flush.
-use Rattle.std.proofs.Common.{◌≡◌, ℕ, zero, suc, ◌+◌, ◌<◌, ◌≤◌, Bool, true, false, not, cond, ltb, ◌||◌, ◌&&◌, ◌⊎◌, inl, inr, List, [], ◌∷◌, ◌++◌, length, map, take, set, slice_get, position, Option, Some, None, Result, Ok, Err, refl, sym, ap, ◌∙◌, arith, subst}
+use Rattle.std.proofs.Common.{◌≡◌, ℕ, zero, suc, ◌+◌, ◌<◌, ◌≤◌, Bool, true, false, cond, ltb, ◌||◌, ◌&&◌, ◌⊎◌, inl, inr, List, [], ◌∷◌, ◌++◌, length, map, take, set, slice_get, position, Option, Some, None, Result, Ok, refl, sym, ap, ◌∙◌, arith}
 use Rattle.std.specs.List.{flat_map, list_all, list_any, position_or_len}
 use Rattle.std.proofs.lemmas.Bool.Decides.{nat_tests}
-use Rattle.std.proofs.lemmas.List.{append-nil, take-append-le, take_all, take_more_set, length-set, length-map, take-map}
+use Rattle.std.proofs.lemmas.List.{append-nil, take-append-le, take_all, take_more_set, length-set}
 use Rattle.std.proofs.lemmas.List.Folds.{list_any-append, list_any_more}
 use Rattle.std.proofs.lemmas.Option.{get_or_from_slice_get, same_Some, slice_get_within}
 use Rattle.node_model.specs.Cores.{Core}
@@ -96,7 +96,7 @@ none_waits_on number k only e w next before after within none turned =
     let came = record e { came = true } in
     let left = delivered_by number k e w next (worlds.node_at e.to w.nodes) turned.next in
     let front : take (k + 1) next.network ≡ take k w.network ++ came ∷ [] =
-      ap (take (k + 1)) left.network ∙ take-append-le (k + 1) (set w.network k came) left.more (omega (arith, length-set w.network k came)) ∙ take_more_set w.network k came within in
+    ap (take (k + 1)) left.network ∙ take-append-le (k + 1) (set w.network k came) left.more (omega (arith, length-set w.network k came)) ∙ take_more_set w.network k came within in
     ap (list_any p) front ∙ list_any-append p (take k w.network) (came ∷ []) ∙ rw none refl
 
 -- at the beginning, those that have come don't wait

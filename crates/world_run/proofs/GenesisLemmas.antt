@@ -1,5 +1,5 @@
 -- The members of a genesis make a configuration that a chain can begin with.
-use Rattle.std.proofs.Common.{◌≤◌, ℕ, List, All, arith, refl, lit≤}
+use Rattle.std.proofs.Common.{◌≤◌, ℕ, List, refl, lit≤}
 use Rattle.std.proofs.lemmas.List.Elements.{All-weaker}
 use Rattle.ord_types.specs.Genesis.{IsGenesisConfig}
 use Rattle.script.specs.Commands.{AreIds, IsId}

@@ -1,9 +1,9 @@
 -- Lemmas on turns, and on how far the text of a turn has come.
-use Rattle.std.proofs.Common.{◌≡◌, ℕ, List, [], ◌++◌, Option, Some, None, Result, Ok, Err, refl, sym, ap, ◌∙◌, subst}
-use Rattle.std.proofs.lemmas.List.{append_assoc, append-nil}
+use Rattle.std.proofs.Common.{◌≡◌, ℕ, List, Option, Some, None, refl, sym, ◌∙◌, subst}
+use Rattle.std.proofs.lemmas.List.{append_assoc}
 use Rattle.script_play.specs.declared.ending.Ending.{Ending}
 use Rattle.script_play.specs.Turns.{Turn, Turned}
-use Rattle.world_model.specs.Turns.{goes_on, says, then_on}
+use Rattle.world_model.specs.Turns.{goes_on}
 use Rattle.world_run.specs.Going.{Goes}
 
 pub Turned-same : {W : Type 0} (t u : Turn W) (before after : List ℕ) (world : W) (ending : Option Ending) → t ≡ u → Turned t before after world ending → Turned u before after world ending

@@ -9,7 +9,7 @@ use Rattle.script_play.specs.Turns.{Turned}
 use Rattle.node_model.specs.Cores.{Core}
 use Rattle.world_model.specs.Cores.{core_setting}
 use Rattle.world_model.specs.Texts.{genesis_text, refused_text}
-use Rattle.world_model.specs.Turns.{first_config, first_world, goes_on, some_world, turn_in, turn_of}
+use Rattle.world_model.specs.Turns.{first_config, first_world, some_world, turn_in, turn_of}
 use Rattle.world_model.specs.Worlds as worlds
 use Rattle.world_run.proofs.GoingLemmas.{Turned-part}
 

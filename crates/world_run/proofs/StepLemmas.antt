@@ -1,5 +1,5 @@
 -- Lemmas on an event's step in the code's world.
-use Rattle.std.proofs.Common.{◌≡◌, ℕ, ◌≤◌, true, eqb, List, ◌++◌, length, map, get_or, set, Option, Some, None, Result, IfOk, OnOk, refl, sym, ap, ◌∙◌, arith}
+use Rattle.std.proofs.Common.{◌≡◌, ℕ, ◌≤◌, true, List, ◌++◌, length, map, get_or, set, Option, Result, IfOk, refl, sym, ap, ◌∙◌, arith}
 use Rattle.std.specs.Prelude.{string_bytes}
 use Rattle.std.specs.List.{flat_map}
 use Rattle.std.proofs.lemmas.Result.{IfOk-weaker}
@@ -11,7 +11,7 @@ use Rattle.node_model.specs.Steps.{Event, Making}
 use Rattle.safety_model.specs.Blocks.{Request}
 use Rattle.ord_types.specs.declared.lists.NoMemory.{NoMemory}
 use Rattle.script_play.specs.declared.ending.Ending.{Ending}
-use Rattle.script_play.specs.Turns.{Turn, Turned}
+use Rattle.script_play.specs.Turns.{Turned}
 use Rattle.world_model.specs.Cores.{core_setting}
 use Rattle.world_model.specs.Texts.{fact_text}
 use Rattle.world_model.specs.Turns.{event_turn, within_limit}
@@ -92,9 +92,9 @@ event_limited : (w : World) (id place : ℕ) (old new : Node) (outside : Outside
     → HasPlace id w.nodes.items place → old ≡ get_or w.nodes.items place old
     → Makes (before_in w old) (worlds.making core_setting (world_of w) (node_of old) event) act_of.Kept new outside
     → within_limit {S = Core} {T = Unit {0}} outside.number (flat_map (fact_text w.outside.number) (worlds.making core_setting (world_of w) (node_of old) event).facts)
-      (record { nodes = map node_of (set w.nodes.items place new); network = map entry_of outside.network.items; seals = outside.seat.seals; told = tt })
+    (record { nodes = map node_of (set w.nodes.items place new); network = map entry_of outside.network.items; seals = outside.seat.seals; told = tt })
     ≡ within_limit w.outside.number (flat_map (fact_text w.outside.number) (worlds.making core_setting (world_of w) (node_of old) event).facts)
-      (worlds.world_after core_setting (world_of w) (node_of old) (worlds.making core_setting (world_of w) (node_of old) event))
+    (worlds.world_after core_setting (world_of w) (node_of old) (worlds.making core_setting (world_of w) (node_of old) event))
 event_limited w id place old new outside event at is makes =
     let m = worlds.making core_setting (world_of w) (node_of old) event in
     let facts = flat_map (fact_text w.outside.number) m.facts in
@@ -106,7 +106,7 @@ pub event_turned : (w : World) (id place : ℕ) (old new : Node) (outside : Outs
     → HasPlace id w.nodes.items place → old ≡ get_or w.nodes.items place old → nodes ≡ w.nodes.items
     → Makes (before_in w old) (worlds.making core_setting (world_of w) (node_of old) event) act_of.Kept new outside
     → IfOk result (λ ending. (before blocks : List ℕ) → string_bytes outside.text ≡ before ++ blocks
-      → Turned (within_limit outside.number blocks (record { nodes = map node_of (set nodes place new); network = map entry_of outside.network.items; seals = outside.seat.seals; told = tt })) before after next ending)
+    → Turned (within_limit outside.number blocks (record { nodes = map node_of (set nodes place new); network = map entry_of outside.network.items; seals = outside.seat.seals; told = tt })) before after next ending)
     → IfOk result (λ ending. Turned (event_turn core_setting w.outside.number (world_of w) (node_of old) event) (string_bytes w.outside.text) after next ending)
 unfolding event_turn
 event_turned w id place old new outside event nodes result after next at is same makes limited =

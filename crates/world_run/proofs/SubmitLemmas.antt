@@ -1,9 +1,9 @@
 -- Lemmas on a request that is submitted.
-use Rattle.std.proofs.Common.{◌≡◌, ℕ, List, ◌++◌, map, get_or, set, Option, Some, None, Ok, refl, sym, ap, ◌∙◌}
+use Rattle.std.proofs.Common.{◌≡◌, ℕ, List, ◌++◌, map, get_or, set, Some, None, Ok, sym, ap, ◌∙◌}
 use Rattle.std.specs.Prelude.{string_bytes}
 use Rattle.node_model.specs.Cores.{Core}
 use Rattle.safety_model.specs.Blocks.{Request}
-use Rattle.script_play.specs.Turns.{Turn, Turned}
+use Rattle.script_play.specs.Turns.{Turned}
 use Rattle.world_model.specs.Pools.{Answer, answer, pool_after}
 use Rattle.world_model.specs.Texts.{answer_text}
 use Rattle.world_model.specs.Turns.{submit_turn}

@@ -1,5 +1,5 @@
 -- Lemmas on a line of ticks.
-use Rattle.std.proofs.Common.{◌≡◌, ℕ, zero, suc, List, ◌++◌, Option, Some, None, refl}
+use Rattle.std.proofs.Common.{◌≡◌, ℕ, suc, List, ◌++◌, Some, None, refl}
 use Rattle.node_model.specs.Cores.{Core}
 use Rattle.script_play.specs.declared.ending.Ending.{Ending}
 use Rattle.script_play.specs.Turns.{Turned}

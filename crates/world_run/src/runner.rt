@@ -34,12 +34,7 @@ impl Runner {
     }
 
     /// A genesis makes the world.
-    fn open(
-        &mut self,
-        number: u64,
-        members: List<u32>,
-        text: &mut String,
-    ) -> Result<(), NoMemory>
+    fn open(&mut self, number: u64, members: List<u32>, text: &mut String) -> Result<(), NoMemory>
         requires { AreIds members }
         ensures { OnOk result (Turned (turn_of core_setting None number (command_of.Genesis members)) (string_bytes text.old) (string_bytes text.new) (option_map world_of self.new.world) None) }
     {
@@ -50,12 +45,7 @@ impl Runner {
     }
 
     /// A command where there is no world yet: a genesis makes it.
-    fn begin(
-        &mut self,
-        number: u64,
-        command: Command,
-        text: &mut String,
-    ) -> Result<(), NoMemory>
+    fn begin(&mut self, number: u64, command: Command, text: &mut String) -> Result<(), NoMemory>
         requires none { self.old.world ≡ None }
         requires formed { IsWellFormed command }
         ensures { OnOk result (Turned (turn_of core_setting None number command) (string_bytes text.old) (string_bytes text.new) (option_map world_of self.new.world) None) }

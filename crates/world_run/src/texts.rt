@@ -83,12 +83,7 @@ fn put_admitted(text: &mut String, number: u64, node: u32) -> Result<(), AllocEr
 }
 
 #[tactic(auto, unfolding(world_model::specs::Texts::malformed_text))]
-fn put_malformed(
-    text: &mut String,
-    number: u64,
-    node: u32,
-    at: u64,
-) -> Result<(), AllocError>
+fn put_malformed(text: &mut String, number: u64, node: u32, at: u64) -> Result<(), AllocError>
     ensures { OnOk result (string_bytes text.new ≡ string_bytes text.old ++ malformed_text number node at) }
 {
     write!(text, "{number} submit {node} malformed grammar {at}\n")

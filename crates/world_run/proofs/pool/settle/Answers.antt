@@ -1,6 +1,6 @@
-use Rattle.std.proofs.Common.{rules, ◌≡◌, List, not}
+use Rattle.std.proofs.Common.{rules, not}
 use Rattle.std.proofs.lemmas.Fn.{filter_same}
-use Rattle.world_model.specs.Pools.{has_id, settled}
+use Rattle.world_model.specs.Pools.{has_id}
 use Rattle.safety_model.specs.Blocks.{Request}
 use Rattle.world_run.proofs.pool.settle.Goals as goal
 

@@ -1,4 +1,4 @@
-use Rattle.std.proofs.Common.{sym, ◌∙◌}
+use Rattle.std.proofs.Common.{sym}
 use Rattle.world_run.proofs.ListLemmas.{node_at_none, node_at_some}
 use Rattle.world_run.proofs.runner.tick.Goals as goal
 

@@ -1,5 +1,3 @@
-use Rattle.std.specs.Option.{option_map}
-use Rattle.world_run.specs.Mapped.{world_of}
 use Rattle.world_run.proofs.RunnerLemmas.{turn_refused}
 use Rattle.world_run.proofs.runner.Runner.begin.Goals as goal
 

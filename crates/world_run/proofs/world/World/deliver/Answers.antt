@@ -1,4 +1,4 @@
-use Rattle.std.proofs.Common.{◌≡◌, ◌∙◌, ◌+◌, arith}
+use Rattle.std.proofs.Common.{◌∙◌, arith}
 use Rattle.std.proofs.lemmas.List.{get_or_default}
 use Rattle.world_run.specs.Mapped.{world_of}
 use Rattle.world_run.proofs.GoingLemmas.{Goes-trans, Turned-last}
@@ -25,7 +25,7 @@ loop-range-preserved c =
     let i = c.loop-range.range-index in
     record {
       goes = Goes-trans _ _ _ _ _ _ so_far.goes
-      (deliver_more c.args.self.now.outside.number i c.loop-range.count c.in-All.sum c.args.ranges.now _ (world_of c.loop-range.self) _ _ _ (omega arith) (get_or_default c.args.ranges.now i _ _ (omega arith)) (rw (c.in-All.is, so_far.number) at c.in_ok-sum.ensures.delivers));
+          (deliver_more c.args.self.now.outside.number i c.loop-range.count c.in-All.sum c.args.ranges.now _ (world_of c.loop-range.self) _ _ _ (omega arith) (get_or_default c.args.ranges.now i _ _ (omega arith)) (rw (c.in-All.is, so_far.number) at c.in_ok-sum.ensures.delivers));
       number = c.in_ok-sum.ensures.number ∙ so_far.number;
     }
 

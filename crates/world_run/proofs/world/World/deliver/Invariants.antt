@@ -1,4 +1,4 @@
-use Rattle.std.proofs.Common.{◌≡◌, ◌≤◌, drop, string_bytes}
+use Rattle.std.proofs.Common.{◌≡◌, drop, string_bytes}
 use Rattle.world_model.specs.Cores.{core_setting}
 use Rattle.world_model.specs.Turns.{deliver_turn}
 use Rattle.world_run.specs.Going.{Goes}

@@ -1,10 +1,9 @@
-use Rattle.std.proofs.Common.{◌≡◌, ◌∙◌, ◌-◌, ◌+◌, ◌++◌, ◌<◌, ℕ, arith, length, map, sym, Some, None}
-use Rattle.std.specs.Prelude.{string_bytes}
+use Rattle.std.proofs.Common.{◌≡◌, ◌∙◌, ◌-◌, ◌+◌, ◌<◌, arith, length, map, Some, None}
 use Rattle.std.proofs.lemmas.List.{length-map}
 use Rattle.std.proofs.lemmas.Option.{MatchOption-at_none}
 use Rattle.world_run.specs.Entries.{entry_of}
 use Rattle.world_run.specs.Mapped.{world_of}
-use Rattle.world_run.proofs.GoingLemmas.{Goes-start, Goes-trans, Turned-last}
+use Rattle.world_run.proofs.GoingLemmas.{Goes-trans, Turned-last}
 use Rattle.world_run.proofs.ListLemmas.{item_at}
 use Rattle.world_run.proofs.RangeLemmas.{deliveries_done, deliveries_ended, deliveries_more, deliveries_refused}
 use Rattle.world_run.proofs.world.World.deliver_range.Goals as goal
@@ -47,8 +46,8 @@ loop-number-preserved c =
     let one_more : c.in_ok-count.count ≡ c.loop-number.count + 1 = (rw c.in_ok-count.ensures.ok_part at c.checked_add.ensures).1 in
     record {
       goes = λ rest.
-      Goes-trans _ _ _ _ _ _ (so_far.goes rest)
-      (rw one_more (deliveries_more c.args.self.now.outside.number (end - k) (end - (k + 1)) k c.in-Some.at c.loop-number.count (world_of c.loop-number.self) _ e.0 _ _ rest (omega arith) c.in-Some.ensures.some.1 e.1 turned));
+          Goes-trans _ _ _ _ _ _ (so_far.goes rest)
+          (rw one_more (deliveries_more c.args.self.now.outside.number (end - k) (end - (k + 1)) k c.in-Some.at c.loop-number.count (world_of c.loop-number.self) _ e.0 _ _ rest (omega arith) c.in-Some.ensures.some.1 e.1 turned));
       number = c.in_ok-ending.ensures.number ∙ so_far.number;
     }
 

@@ -1,4 +1,4 @@
-use Rattle.std.proofs.Common.{◌≡◌, ◌-◌, ◌+◌, ◌≤◌, ℕ, string_bytes}
+use Rattle.std.proofs.Common.{◌≡◌, ◌-◌, ◌+◌, ℕ, string_bytes}
 use Rattle.node_model.specs.Cores.{Core}
 use Rattle.script_play.specs.Turns.{Turn}
 use Rattle.world_model.specs.Cores.{core_setting}
@@ -14,7 +14,7 @@ invariant-loop-number l =
     let end = l.fn.range.last + 1 in
     record {
       goes : (rest : ℕ → World Core (Unit {0}) → Turn (World Core (Unit {0})))
-        → Goes (deliveries core_setting number (end - l.fn.range.first) l.fn.range.first l.fn.so_far (world_of l.fn.self) rest) (string_bytes l.fn.self.outside.text)
+          → Goes (deliveries core_setting number (end - l.fn.range.first) l.fn.range.first l.fn.so_far (world_of l.fn.self) rest) (string_bytes l.fn.self.outside.text)
           (string_bytes l.self.outside.text) (deliveries core_setting number (end - l.number) l.number l.count (world_of l.self) rest);
       number : l.self.outside.number ≡ number;
     }

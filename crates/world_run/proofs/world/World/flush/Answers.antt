@@ -1,9 +1,8 @@
-use Rattle.std.proofs.Common.{◌≡◌, ◌∙◌, ◌-◌, ◌+◌, ap, sym, arith, subst, List, ℕ, length, map, ◌<◌, ◌≤◌, ◌⊎◌, inl, inr}
+use Rattle.std.proofs.Common.{◌≡◌, ◌∙◌, ◌-◌, ◌+◌, ap, sym, arith, length, map, ◌<◌, ◌≤◌, ◌⊎◌, inl, inr}
 use Rattle.std.specs.Prelude.{string_bytes}
 use Rattle.std.proofs.lemmas.List.{length-map}
 use Rattle.world_model.specs.Cores.{core_setting}
 use Rattle.world_model.specs.Turns.{flush_turn}
-use Rattle.world_run.specs.Going.{Goes}
 use Rattle.world_run.specs.Entries.{entry_of}
 use Rattle.world_run.specs.Mapped.{world_of}
 use Rattle.world_run.proofs.ListLemmas.{entry_has}
@@ -45,13 +44,13 @@ loop-count-preserved c =
     let e = entry_of c.index.result.now in
     let has = entry_has w.outside.network.items c.loop-count.at c.index.result.now within c.index.ensures in
     elim c.if-is_waiting.branch [
-      then-is_waiting+in_ok-ending+in_default r ↦
-        let turned = rw (r.in_default.is, so_far.number) at (r.in_ok-ending.ensures.turned e has) in
-        rw (r.self-is, r.count-is) (record {
-          goes = Goes-trans _ _ _ _ _ _ so_far.goes (flush_more number left (10000 - (c.loop-count.count + 1)) c.loop-count.at c.loop-count.count c.args.only.now (world_of w) _ e _ _ (omega arith) so_far.none has (sym r.if-is_waiting.ensures) turned);
-          none = none_waits_on number c.loop-count.at c.args.only.now e (world_of w) (world_of r.deliver_entry.new.self) _ _ (omega (arith, length-map w.outside.network.items entry_of)) so_far.none turned;
-          number = r.in_ok-ending.ensures.number ∙ so_far.number;
-        })
+      | then-is_waiting+in_ok-ending+in_default r ↦
+          let turned = rw (r.in_default.is, so_far.number) at (r.in_ok-ending.ensures.turned e has) in
+          rw (r.self-is, r.count-is) (record {
+            goes = Goes-trans _ _ _ _ _ _ so_far.goes (flush_more number left (10000 - (c.loop-count.count + 1)) c.loop-count.at c.loop-count.count c.args.only.now (world_of w) _ e _ _ (omega arith) so_far.none has (sym r.if-is_waiting.ensures) turned);
+            none = none_waits_on number c.loop-count.at c.args.only.now e (world_of w) (world_of r.deliver_entry.new.self) _ _ (omega (arith, length-map w.outside.network.items entry_of)) so_far.none turned;
+            number = r.in_ok-ending.ensures.number ∙ so_far.number;
+          })
       | else-is_waiting r ↦ rw (r.self-is, r.count-is) (record {
         goes = so_far.goes;
         none = none_waits_past c.args.only.now c.loop-count.at (map entry_of w.outside.network.items) e has (sym c.is_waiting.ensures ∙ r.if-is_waiting.false) so_far.none;
@@ -64,6 +63,6 @@ returns-clause-turned c =
     let so_far = c.loop-count.invariant in
     let w = c.loop-count.self in
     let ended : (10000 - c.loop-count.count ≡ 0) ⊎ (length (map entry_of w.outside.network.items) ≤ c.loop-count.at) =
-      elim c.loop-count-test.branch [ then-loop-count-test+else-at-len r ↦ inr (omega (arith, length-map w.outside.network.items entry_of)) | else-loop-count-test r ↦ inl (omega arith) ] in
+    elim c.loop-count-test.branch [ then-loop-count-test+else-at-len r ↦ inr (omega (arith, length-map w.outside.network.items entry_of)) | else-loop-count-test r ↦ inl (omega arith) ] in
     Turned-last _ _ _ _ _ _ _ so_far.goes
     (flush_done c.args.self.now.outside.number (10000 - c.loop-count.count) c.loop-count.at c.loop-count.count c.args.only.now (world_of w) _ _ so_far.none ended (rw so_far.number at c.in_ok-put_flush.ensures))

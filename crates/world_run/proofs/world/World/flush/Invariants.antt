@@ -1,4 +1,4 @@
-use Rattle.std.proofs.Common.{◌≡◌, ◌-◌, ◌^◌, ◌≤◌, false, map, take, string_bytes}
+use Rattle.std.proofs.Common.{◌≡◌, ◌-◌, ◌^◌, false, map, take, string_bytes}
 use Rattle.std.specs.List.{list_any}
 use Rattle.world_model.specs.Cores.{core_setting}
 use Rattle.world_model.specs.Turns.{flush_turn}

@@ -1,5 +1,4 @@
 use Rattle.std.proofs.Common.{◌≡◌, ◌-◌, vec_len}
-use Rattle.world_run.specs.Mapped.{world_of}
 use Rattle.world_run.proofs.world.World.pass_over.Given as goal
 
 abbrev pub invariant-loop-self : goal.invariant-loop-self

@@ -2,7 +2,7 @@ use Rattle.std.proofs.Common.{sym, ◌∙◌, ◌≡◌, ◌≤◌, ℕ, length,
 use Rattle.std.specs.Prelude.{string_bytes}
 use Rattle.std.proofs.lemmas.Result.{on_ok_weaker, IfOk-weaker}
 use Rattle.std.proofs.lemmas.Option.{same_Some}
-use Rattle.node_model.specs.Cores.{core_ways, Core}
+use Rattle.node_model.specs.Cores.{Core}
 use Rattle.node_model.specs.Steps.{FromMember}
 use Rattle.script_play.specs.Turns.{Turned}
 use Rattle.script_play.specs.declared.ending.Ending.{Ending}

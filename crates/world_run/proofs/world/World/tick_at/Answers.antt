@@ -1,6 +1,6 @@
 use Rattle.std.proofs.Common.{sym, ◌∙◌, ◌≡◌, ◌≤◌, ℕ, length, true, subst}
 use Rattle.std.proofs.lemmas.Result.{on_ok_weaker}
-use Rattle.node_model.specs.Cores.{core_ways, Core}
+use Rattle.node_model.specs.Cores.{core_ways}
 use Rattle.world_model.specs.Worlds as worlds
 use Rattle.world_run.specs.Going.{have_come}
 use Rattle.world_run.specs.Nodes.{node_of}

@@ -1,9 +1,4 @@
-use Rattle.std.proofs.Common.{◌≡◌, ◌∙◌, ◌-◌, ◌+◌, ℕ, suc, arith, subst, Some, None, Option}
-use Rattle.std.specs.Prelude.{string_bytes}
-use Rattle.script_play.specs.Turns.{Turned}
-use Rattle.world_model.specs.Cores.{core_setting}
-use Rattle.world_model.specs.Turns.{ticks, tick_at}
-use Rattle.world_model.specs.Worlds as worlds
+use Rattle.std.proofs.Common.{◌∙◌, ◌-◌, ◌+◌, arith}
 use Rattle.world_run.specs.Mapped.{world_of}
 use Rattle.world_run.proofs.GoingLemmas.{Goes-trans, Turned-last}
 use Rattle.world_run.proofs.TickLemmas.{ticks_done, ticks_ended, ticks_more}
