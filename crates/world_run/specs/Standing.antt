@@ -1,5 +1,5 @@
 -- Where a node of the world stands.
-use Rattle.std.specs.Prelude.{◌≡◌, ℕ}
+use Rattle.std.specs.Prelude.{◌≡◌}
 use Rattle.ord_types.specs.declared.values.Place.{Place}
 use Rattle.node_model.specs.Acts.{View}
 

@@ -1,11 +1,12 @@
 //! Runs the commands of a script on a world.
-ghost use Rattle.std.specs.Prelude.{◌≡◌, IfOk, IfSome, None, Option, string_bytes};
+ghost use Rattle.std.specs.Prelude.{◌≡◌, IfOk, IfSome, None, OnOk, Option, codes, string_bytes};
 ghost use Rattle.std.specs.Option.{option_map};
-ghost use Rattle.ord_types.specs.Genesis.{IsGenesisConfig};
+ghost use Rattle.script.specs.Commands.{AreIds, IsWellFormed};
+ghost use Rattle.script.specs.declared.command.Command.TheVariants as command_of;
 ghost use Rattle.script_play.specs.Turns.{IsLimit, Turned};
 ghost use Rattle.node_model.specs.Cores.{Core};
 ghost use Rattle.world_model.specs.Cores.{core_setting};
-ghost use Rattle.world_model.specs.Turns.{closing_of, turn_in, turn_of};
+ghost use Rattle.world_model.specs.Turns.{closing_of, refuses, turn_in, turn_of};
 ghost use Rattle.world_model.specs.Worlds as worlds;
 ghost use Rattle.world_run.specs.Mapped.{world_of};
 
@@ -32,22 +33,42 @@ impl Runner {
         Runner { alloc, world: None }
     }
 
-    /// The first genesis makes the world.
-    fn begin(
-        &mut self,
-        number: u64,
-        command: Command,
-        text: &mut String,
-    ) -> Result<Option<Ending>, NoMemory> {
-        match command {
-            Command::Genesis { members } => {
-                self.world = Some(World::new(self.alloc, members)?);
-                put_genesis(text, number)?;
-            }
-            _ => put_refused(text, number, "no world")?,
-        }
-        Ok(None)
+    /// A genesis makes the world.
+    fn open(&mut self, number: u64, members: List<u32>, text: &mut String) -> Result<(), NoMemory>
+        requires { AreIds members }
+        ensures { OnOk result (Turned (turn_of core_setting None number (command_of.Genesis members)) (string_bytes text.old) (string_bytes text.new) (option_map world_of self.new.world) None) }
+    {
+        let world = World::new(self.alloc, members)?;
+        put_genesis(text, number)?;
+        self.world = Some(world);
+        Ok(())
     }
+
+    /// A command where there is no world yet: a genesis makes it.
+    fn begin(&mut self, number: u64, command: Command, text: &mut String) -> Result<(), NoMemory>
+        requires none { self.old.world ≡ None }
+        requires formed { IsWellFormed command }
+        ensures { OnOk result (Turned (turn_of core_setting None number command) (string_bytes text.old) (string_bytes text.new) (option_map world_of self.new.world) None) }
+    {
+        if let Command::Genesis { members } = command {
+            return self.open(number, members, text);
+        }
+        put_refused(text, number, "no world")?;
+        Ok(())
+    }
+}
+
+/// Refuses a line about a node that isn't in the world.
+fn refuse_node(world: &mut World) -> Result<Option<Ending>, NoMemory>
+    ensures limit { IfOk result (λ ending. IfSome ending IsLimit) }
+    ensures turned { IfOk result (λ ending. Turned (refuses world.old.outside.number (codes "unknown node") (world_of world.old)) (string_bytes world.old.outside.text) (string_bytes world.new.outside.text) (world_of world.new) ending) }
+{
+    put_refused(
+        &mut world.outside.text,
+        world.outside.number,
+        "unknown node",
+    )?;
+    Ok(None)
 }
 
 fn submit(
@@ -55,32 +76,33 @@ fn submit(
     node: u32,
     id: ReqId,
     payload: Bytes,
-) -> Result<Option<Ending>, NoMemory> {
-    match world.find(node) {
-        Some(place) => world.submit(node, place, id, payload)?,
-        None => put_refused(
-            &mut world.outside.text,
-            world.outside.number,
-            "unknown node",
-        )?,
-    }
+) -> Result<Option<Ending>, NoMemory>
+    ensures limit { IfOk result (λ ending. IfSome ending IsLimit) }
+    ensures turned { IfOk result (λ ending. Turned (turn_in core_setting world.old.outside.number (world_of world.old) (command_of.Submit node id.client id.serial payload)) (string_bytes world.old.outside.text) (string_bytes world.new.outside.text) (world_of world.new) ending) }
+{
+    let Some(place) = world.find(node) else {
+        return refuse_node(world);
+    };
+    world.submit(node, place, id, payload)?;
     Ok(None)
 }
 
-fn tick(world: &mut World, node: u32, count: u32) -> Result<Option<Ending>, NoMemory> {
-    if world.find(node).is_none() {
-        put_refused(
-            &mut world.outside.text,
-            world.outside.number,
-            "unknown node",
-        )?;
-        return Ok(None);
+fn tick(world: &mut World, node: u32, count: u32) -> Result<Option<Ending>, NoMemory>
+    ensures limit { IfOk result (λ ending. IfSome ending IsLimit) }
+    ensures turned { IfOk result (λ ending. Turned (turn_in core_setting world.old.outside.number (world_of world.old) (command_of.Tick node count)) (string_bytes world.old.outside.text) (string_bytes world.new.outside.text) (world_of world.new) ending) }
+{
+    match world.find(node) {
+        None => refuse_node(world),
+        Some(_) => world.ticks(node, count),
     }
-    world.ticks(node, count)
 }
 
 /// Does what a command asks of a world.
-fn turn_in(world: &mut World, command: Command) -> Result<Option<Ending>, NoMemory> {
+fn turn_in(world: &mut World, command: Command) -> Result<Option<Ending>, NoMemory>
+    requires { IsWellFormed command }
+    ensures limit { IfOk result (λ ending. IfSome ending IsLimit) }
+    ensures turned { IfOk result (λ ending. Turned (turn_in core_setting world.old.outside.number (world_of world.old) command) (string_bytes world.old.outside.text) (string_bytes world.new.outside.text) (world_of world.new) ending) }
+{
     match command {
         Command::Genesis { members: _members } => {
             put_refused(
@@ -118,7 +140,8 @@ impl Machine for Runner {
         text: &mut String,
     ) -> Result<Option<Ending>, NoMemory> {
         let Some(world) = &mut self.world else {
-            return self.begin(number, command, text);
+            self.begin(number, command, text)?;
+            return Ok(None);
         };
         world.outside.number = number;
         mem::swap(text, &mut world.outside.text);

@@ -1,6 +1,7 @@
 //! The world of a script: its nodes, the network, and what an event changes.
-ghost use Rattle.std.specs.Prelude.{◌≡◌, ◌==◌, ◌&&◌, ◌<◌, ◌≤◌, ◌-◌, ◌+◌, ◌++◌, ◌≢◌, ℕ, List as Items, true, IfNone, IfOk, IfSome, OnOk, Some, None, length, position, slice_get, slice_index_or, string_bytes, vec_len};
+ghost use Rattle.std.specs.Prelude.{◌≡◌, ◌==◌, ◌<◌, ◌≤◌, ◌+◌, ◌-◌, ◌^◌, ◌++◌, All, ℕ, List as Items, true, IfNone, IfOk, IfSome, OnOk, Some, None, length, position, slice_get, string_bytes, vec_len};
 ghost use Rattle.ord_types.specs.Genesis.{IsGenesisConfig};
+ghost use Rattle.script.specs.Commands.{IsRange};
 ghost use Rattle.script_play.specs.Turns.{IsLimit, Turned};
 ghost use Rattle.node_model.specs.Cores.{Core, core_ways};
 ghost use Rattle.node_model.specs.Steps.{FromMember};
@@ -9,6 +10,7 @@ ghost use Rattle.world_model.specs.Cores.{core_setting};
 ghost use Rattle.world_model.specs.Texts.{closing_line, sent_text};
 ghost use Rattle.world_model.specs.Turns.{
   deliver_turn,
+  deliveries,
   delivery,
   event_turn,
   first_config,
@@ -26,10 +28,9 @@ ghost use Rattle.world_run.specs.Going.{have_come};
 
 use crate::network::Entry;
 use crate::node::{Node, Outside};
-use crate::pool::{Answer, submit};
+use crate::pool::submit;
 use crate::texts::{
-    put_admitted, put_deliver, put_flush, put_limit, put_malformed, put_node, put_pending,
-    put_refused, put_sent, put_tick,
+    put_answer, put_deliver, put_flush, put_limit, put_node, put_refused, put_sent, put_tick,
 };
 use bft_wire::Message;
 use ord_types::{Batch, Bytes, Config, Kind, List, Mode, NoMemory, ReqId, ReqKind, Request};
@@ -51,6 +52,7 @@ pub(crate) struct World {
     pub(crate) outside: Outside,
     /// The place of the first entry that may wait: those before it have come.
     pub(crate) first_waiting: usize,
+    ghost within: { first_waiting ≤ length outside.network.items },
     ghost passed: { have_come first_waiting outside.network.items ≡ true },
 }
 
@@ -74,6 +76,7 @@ pub(crate) fn first_config(members: List<u32>) -> Config
 }
 
 impl World {
+    ghost use Rattle.world_run.specs.Going.{Delivers, IsLimited};
     ghost use Rattle.world_run.specs.Mapped.{world_of};
 
     /// The world of a genesis.
@@ -138,7 +141,9 @@ impl World {
         ensures number { OnOk result (self.new.outside.number ≡ self.old.outside.number) }
     {
         self.give_seat(id)?;
+        let first_waiting = mem::replace(&mut self.first_waiting, 0);
         self.nodes[place].tick(&mut self.outside)?;
+        self.first_waiting = first_waiting;
         self.within_limit()
     }
 
@@ -183,7 +188,9 @@ impl World {
         ensures number { OnOk result (self.new.outside.number ≡ self.old.outside.number) }
     {
         self.give_seat(id)?;
+        let first_waiting = mem::replace(&mut self.first_waiting, 0);
         self.nodes[place].take(from, message, &mut self.outside)?;
+        self.first_waiting = first_waiting;
         self.within_limit()
     }
 
@@ -193,8 +200,6 @@ impl World {
         ensures limit { IfOk result (λ ending. IfSome ending IsLimit) }
         ensures turned { IfOk result (λ ending. (entry : worlds.Entry) → slice_get (world_of self.old).network at ≡ Some entry → Turned (delivery core_setting self.old.outside.number at entry (world_of self.old)) (string_bytes self.old.outside.text) (string_bytes self.new.outside.text) (world_of self.new) ending) }
         ensures number { OnOk result (self.new.outside.number ≡ self.old.outside.number) }
-        ensures others { OnOk result ((d : worlds.Entry) (k : ℕ) → k < vec_len self.old.outside.network → k ≢ at → slice_index_or (world_of self.new).network k d ≡ slice_index_or (world_of self.old).network k d) }
-        ensures longer { OnOk result (vec_len self.old.outside.network ≤ vec_len self.new.outside.network) }
     {
         let entry = &mut self.outside.network[at];
         entry.came = true;
@@ -220,11 +225,16 @@ impl World {
         }
     }
 
-    /// Delivers the entries with these numbers. `None` is a number that isn't in the network, at which the
-    /// line is refused.
-    fn deliver_range(&mut self, range: Range, count: u64) -> Result<Delivered, NoMemory> {
-        let mut count = count;
-        for number in range.first..=range.last {
+    /// Delivers the entries with these numbers, after so many others. A number that isn't in the network
+    /// refuses the line.
+    fn deliver_range(&mut self, range: Range, so_far: u64) -> Result<Delivered, NoMemory>
+        requires { range.last < 2 ^ 64 - 1 }
+        ensures limit { IfOk result IsLimited }
+        ensures delivers { IfOk result (Delivers (deliveries core_setting self.old.outside.number (range.last + 1 - range.first) range.first so_far (world_of self.old)) (string_bytes self.old.outside.text) (string_bytes self.new.outside.text) (world_of self.new)) }
+        ensures number { OnOk result (self.new.outside.number ≡ self.old.outside.number) }
+    {
+        let mut count = so_far;
+        for number in range.first..range.last + 1 {
             let Some(at) = self.place_of_entry(number) else {
                 put_refused(&mut self.outside.text, self.outside.number, "no entry")?;
                 return Ok(Delivered::Refused);
@@ -239,6 +249,7 @@ impl World {
 
     /// Delivers these entries, in this order.
     pub(crate) fn deliver(&mut self, ranges: &[Range]) -> Result<Option<Ending>, NoMemory>
+        requires { All IsRange ranges.now }
         ensures limit { IfOk result (λ ending. IfSome ending IsLimit) }
         ensures turned { IfOk result (λ ending. Turned (deliver_turn core_setting self.old.outside.number ranges.now 0 (world_of self.old)) (string_bytes self.old.outside.text) (string_bytes self.new.outside.text) (world_of self.new) ending) }
         ensures number { OnOk result (self.new.outside.number ≡ self.old.outside.number) }
@@ -304,13 +315,7 @@ impl World {
         let kind = ReqKind::Ordinary;
         let node = &mut self.nodes[place];
         let answer = submit(&mut node.pool, Request { kind, id, payload })?;
-        let number = self.outside.number;
-        let text = &mut self.outside.text;
-        match answer {
-            Answer::Admitted => put_admitted(text, number, to)?,
-            Answer::Malformed(at) => put_malformed(text, number, to, at)?,
-            Answer::KnownPending => put_pending(text, number, to)?,
-        }
+        put_answer(&mut self.outside.text, self.outside.number, to, answer)?;
         Ok(())
     }
 

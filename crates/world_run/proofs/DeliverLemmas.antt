@@ -1,0 +1,59 @@
+-- Lemmas on the delivery of an entry.
+use Rattle.std.proofs.Common.{◌≡◌, ℕ, ◌<◌, List, length, map, get_or, set, slice_get, position, eqb, true, Option, Some, None, Ok, [], refl, sym, ap, ◌∙◌}
+use Rattle.std.proofs.lemmas.List.{append-nil, map-set}
+use Rattle.bft_wire.specs.declared.message.Message.{Message}
+use Rattle.node_model.specs.Cores.{Core}
+use Rattle.node_model.specs.Steps.{FromMember}
+use Rattle.script_play.specs.declared.ending.Ending.{Ending}
+use Rattle.script_play.specs.Turns.{Turned}
+use Rattle.world_model.specs.Cores.{core_setting}
+use Rattle.world_model.specs.Turns.{delivery, event_turn}
+use Rattle.world_model.specs.Worlds as worlds
+use Rattle.world_run.specs.Entries.{entry_of}
+use Rattle.world_run.specs.Mapped.{world_of}
+use Rattle.world_run.specs.Nodes.{node_of}
+use Rattle.world_run.specs.declared.network.Entry.{Entry}
+use Rattle.world_run.specs.declared.node.Node.{Node}
+use Rattle.world_run.specs.declared.world.World.{World}
+use Rattle.world_run.proofs.GoingLemmas.{Turned-same}
+use Rattle.world_run.proofs.ListLemmas.{HasPlace, entry_read, node_at_none, node_at_some}
+
+-- an entry that has come
+abbrev pub arrived : Entry → Entry
+arrived e = record e { came = true }
+
+-- the world with the entry at this place marked
+abbrev pub with_arrived : World → ℕ → Entry → worlds.World Core (Unit {0})
+with_arrived w at e =
+    record {
+      nodes = map node_of w.nodes.items;
+      network = map entry_of (set w.outside.network.items at (arrived e));
+      seals = w.outside.seat.seals;
+      told = tt;
+    }
+
+marked_is : (w : World) (at : ℕ) (e : Entry) → worlds.marked at (entry_of e) (world_of w) ≡ with_arrived w at e
+marked_is w at e = rw (map-set entry_of w.outside.network.items at (arrived e)) refl
+
+-- no node is the receiver
+pub delivered_nowhere : (w : World) (number at : ℕ) (read : Entry) (e : worlds.Entry) (text : List ℕ) → at < length w.outside.network.items → read ≡ get_or w.outside.network.items at read
+    → position (λ (node : Node). eqb node.id read.to) w.nodes.items ≡ None → slice_get (map entry_of w.outside.network.items) at ≡ Some e
+    → Turned (delivery core_setting number at e (world_of w)) text text (with_arrived w at read) None
+delivered_nowhere w number at read e text within is nowhere has =
+    let turn : delivery core_setting number at (entry_of read) (world_of w) ≡ record { printed = []; next = Ok (with_arrived w at read) } = rw (node_at_none read.to w.nodes.items nowhere, marked_is w at read) refl in
+    Turned-same _ _ text text _ None (sym turn ∙ ap (λ (x : worlds.Entry). delivery core_setting number at x (world_of w)) (entry_read w.outside.network.items at read e within is has)) (record { printed = sym (append-nil text); next = refl })
+
+-- the receiver takes the message
+pub delivered_to_node : (w : World) (number at place : ℕ) (read : Entry) (message : Message) (e : worlds.Entry) (before after : List ℕ) (next : worlds.World Core (Unit {0})) (ending : Option Ending)
+    → at < length w.outside.network.items → read ≡ get_or w.outside.network.items at read → HasPlace read.to w.nodes.items place → message ≡ read.message.value
+    → ((node : worlds.Node Core) → worlds.node_at read.to (map node_of w.nodes.items) ≡ Some node
+    → Turned (event_turn core_setting number (with_arrived w at read) node (FromMember (record { from = read.from; message = message }))) before after next ending)
+    → slice_get (map entry_of w.outside.network.items) at ≡ Some e
+    → Turned (delivery core_setting number at e (world_of w)) before after next ending
+delivered_to_node w number at place read message e before after next ending within is has_place same taken has =
+    let node = node_at_some read.to w.nodes.items place has_place in
+    let event = λ (m : Message). event_turn core_setting number (with_arrived w at read) (node_of node.0) (FromMember (record { from = read.from; message = m })) in
+    let turn : delivery core_setting number at (entry_of read) (world_of w) ≡ event read.message.value = rw (node.1, marked_is w at read) refl in
+    Turned-same _ _ before after next ending
+    (ap event same ∙ sym turn ∙ ap (λ (x : worlds.Entry). delivery core_setting number at x (world_of w)) (entry_read w.outside.network.items at read e within is has))
+    (taken (node_of node.0) node.1)

@@ -1,0 +1,27 @@
+-- The members of a genesis make a configuration that a chain can begin with.
+use Rattle.std.proofs.Common.{◌≤◌, ℕ, List, refl, lit≤}
+use Rattle.std.proofs.lemmas.List.Elements.{All-weaker}
+use Rattle.ord_types.specs.Genesis.{IsGenesisConfig}
+use Rattle.script.specs.Commands.{AreIds, IsId}
+use Rattle.world_model.specs.Turns.{first_config}
+
+pub genesis_from_ids : (members : List ℕ) → AreIds members → IsGenesisConfig (first_config members)
+genesis_from_ids members ids = record {
+  first = refl;
+  bounds = record {
+    some_count = lit≤ tt;
+    small_count = lit≤ tt;
+    some_size = lit≤ tt;
+    larger_absolute = lit≤ tt;
+    small_absolute = lit≤ tt;
+    some_wait = lit≤ tt;
+    small_wait = lit≤ tt;
+    small_rotation = lit≤ tt;
+  };
+  some_member = ids.some;
+  members = record {
+    count = ids.few;
+    ascending = ids.ascending;
+    positive = All-weaker IsId (λ (id : ℕ). 1 ≤ id) (λ id is. is.positive) members ids.each;
+  };
+}

@@ -1,0 +1,10 @@
+pub mod DeliverLemmas
+pub mod FlushLemmas
+pub mod GenesisLemmas
+pub mod GoingLemmas
+pub mod ListLemmas
+pub mod RangeLemmas
+pub mod RunnerLemmas
+pub mod StepLemmas
+pub mod SubmitLemmas
+pub mod TickLemmas

@@ -1,0 +1,34 @@
+use Rattle.std.proofs.Common.{◌≡◌, ◌∙◌, arith, map, slice_get, sym, Option, Some}
+use Rattle.std.specs.Prelude.{string_bytes}
+use Rattle.std.proofs.lemmas.Result.{IfOk-weaker}
+use Rattle.node_model.specs.Cores.{Core}
+use Rattle.node_model.specs.Steps.{FromMember}
+use Rattle.script_play.specs.declared.ending.Ending.{Ending}
+use Rattle.script_play.specs.Turns.{Turned}
+use Rattle.world_model.specs.Cores.{core_setting}
+use Rattle.world_model.specs.Turns.{delivery, event_turn}
+use Rattle.world_model.specs.Worlds as worlds
+use Rattle.world_run.specs.Entries.{entry_of}
+use Rattle.world_run.specs.Mapped.{world_of}
+use Rattle.world_run.specs.Nodes.{node_of}
+use Rattle.world_run.proofs.DeliverLemmas.{delivered_nowhere, delivered_to_node, with_arrived}
+use Rattle.world_run.proofs.world.World.deliver_entry.Goals as goal
+
+pub returns-in-None-clause-turned : goal.returns-in-None-clause-turned
+returns-in-None-clause-turned c = λ e has.
+    delivered_nowhere c.args.self.now _ _ c.index_mut-entry.result.now e _ (omega arith) c.index_mut-entry.ensures.value (sym c.in-None.ensures) has
+
+pub returns-clause-turned : goal.returns-clause-turned
+returns-clause-turned c =
+    let w = c.args.self.now in
+    let number = w.outside.number in
+    let read = c.index_mut-entry.result.now in
+    let message = c.as_ref.result.now in
+    let before = string_bytes w.outside.text in
+    let after = string_bytes c.take_at.new.self.outside.text in
+    let next = world_of c.take_at.new.self in
+    IfOk-weaker c.take_at.result
+    (λ (ending : Option Ending). (node : worlds.Node Core) → worlds.node_at read.to (map node_of w.nodes.items) ≡ Some node → Turned (event_turn core_setting number (with_arrived w c.args.at read) node (FromMember (record { from = read.from; message = message }))) before after next ending)
+    (λ (ending : Option Ending). (e : worlds.Entry) → slice_get (map entry_of w.outside.network.items) c.args.at ≡ Some e → Turned (delivery core_setting number c.args.at e (world_of w)) before after next ending)
+    (λ ending taken e has. delivered_to_node w number c.args.at c.in-Some.place read message e before after next ending (omega arith) c.index_mut-entry.ensures.value (sym c.in-Some.ensures) (c.as_ref.ensures ∙ c.in_ok-message.ensures.cases) taken has)
+    c.take_at.ensures.turned
