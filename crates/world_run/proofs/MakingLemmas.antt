@@ -1,0 +1,147 @@
+-- What a call of a node adds to the step so far.
+use Rattle.std.proofs.Common.{◌≡◌, ℕ, ◌+◌, Bool, true, false, ◌&&◌, ◌||◌, ◌==◌, not, cond, List, [], ◌∷◌, ◌++◌, length, map, Option, Some, None, Result, Ok, Err, IfOk, OnOk, refl, sym, ap, ◌∙◌, ◌⊎◌, inl, inr, append_assoc, arith, string_bytes}
+use Rattle.std.specs.List.{filter, flat_map, list_any}
+use Rattle.std.proofs.lemmas.Bool.{cases_Bool, ne_eqb, eq-eqb}
+use Rattle.std.proofs.lemmas.List.{append-nil, map-append}
+use Rattle.std.proofs.lemmas.List.Concat.{flat_map-append}
+use Rattle.ord_types.specs.Hashes.{block_hash}
+use Rattle.ord_types.specs.declared.values.Place.{Place}
+use Rattle.ord_types.specs.declared.values.Cert.{Cert}
+use Rattle.ord_types.specs.declared.values.Sig.{Sig}
+use Rattle.ord_types.specs.declared.values.ReqId.{ReqId}
+use Rattle.safety_model.specs.Blocks.{Block, Request}
+use Rattle.safety_model.specs.declared.fact.Fact.{Fact}
+use Rattle.safety_model.specs.declared.fact.Fact.TheVariants as fact_of
+use Rattle.signer_edge.specs.Accepts.{Accepts}
+use Rattle.signer_edge.specs.Seals.{Seat, is_sealed, next_sig, with_seal}
+use Rattle.signer_edge.specs.Statements.{commit_text}
+use Rattle.signer_edge.specs.declared.seals.Seal.{Seal}
+use Rattle.bft_wire.specs.declared.message.Message.TheVariants as message_of
+use Rattle.node_model.specs.Letters.{Commit, Message}
+use Rattle.node_model.specs.declared.letter.Letter.{Letter}
+use Rattle.node_model.specs.declared.act.Act.{Act}
+use Rattle.node_model.specs.declared.act.Act.TheVariants as act_of
+use Rattle.node_model.specs.Acts.{View, acceptance_due, deliver_act, delivery_due, due, may_propose, preparation_due, proposed}
+use Rattle.node_model.specs.Answers.{after_act, after_due, after_propose, after_vote, at_place, due_answer, kept_after, propose_answer, vote_answer}
+use Rattle.node_model.specs.Cores.{Core, core_comes, core_ways, next_place}
+use Rattle.node_model.specs.Steps.{Event, FromMember, Keys, Making, Post, Tick, accept_round, begins, commit_message, makes_accepted, makes_delivered, makes_prepared, next, own_rule, prepare_message, prepare_round, preprepare_message, rounds, to_all, votes}
+use Rattle.world_model.specs.Pools.{has_id, settled}
+use Rattle.world_model.specs.Texts.{fact_text}
+use Rattle.world_model.specs.Worlds.{Entry, keys_of, requests_in, seals_of, sent_by}
+use Rattle.world_run.specs.Entries.{entry_of}
+use Rattle.world_run.specs.Making.{Before, HasNoneToAccept, IsDelivery, IsDue, Makes, Stands, accepted_in, accepts_in, act_in, keys_before, prepared_in}
+use Rattle.world_run.specs.Nodes.{core_of}
+use Rattle.world_run.specs.Standing.{IsAt}
+use Rattle.world_run.specs.declared.node.Node.{Node}
+use Rattle.world_run.specs.declared.node.Outside.{Outside}
+use Rattle.world_run.proofs.ViewLemmas.{acceptance_due-accepted, accepted-kept_after, act_in-due_answer, act_in-vote_answer, at_place-at, is_prepared-kept_after, me-after_act, me-kept_after, preparation_due-accepted, preparation_due-prepared}
+
+pub IfOk-with : {T E : Type 0} (r : Result T E) (P S : T → Type 0) (Q : Type 0) → ((x : T) → P x → Q → S x) → IfOk r P → OnOk r Q → IfOk r S
+IfOk-with (Ok x) P S Q f p q = f x p q
+IfOk-with (Err e) P S Q f p q = tt
+
+-- LISTS
+
+flat_map-quiet : {X A : Type 0} (f : X → List A) (xs : List X) (x : X) → f x ≡ [] → flat_map f (xs ++ x ∷ []) ≡ flat_map f xs
+flat_map-quiet f xs x e = flat_map-append f xs (x ∷ []) ∙ rw e (append-nil (flat_map f xs))
+
+flat_map-one : {X A : Type 0} (f : X → List A) (xs : List X) (x : X) → flat_map f (xs ++ x ∷ []) ≡ flat_map f xs ++ f x
+flat_map-one f xs x = flat_map-append f xs (x ∷ []) ∙ rw (append-nil (f x))
+
+sent_by-append : (i : ℕ) (xs ys : List Post) → sent_by i (xs ++ ys) ≡ sent_by i xs ++ sent_by i ys
+sent_by-append i xs ys = map-append _ xs ys
+
+seals_of-append : (i : ℕ) (xs ys : List (List ℕ)) → seals_of i (xs ++ ys) ≡ seals_of i xs ++ seals_of i ys
+seals_of-append i xs ys = map-append _ xs ys
+
+-- what is sent in a step, and then more
+sent_more : (before : List Entry) (i : ℕ) (xs ys : List Post) (old new : List Entry) → old ≡ before ++ sent_by i xs → new ≡ old ++ sent_by i ys → new ≡ before ++ sent_by i (xs ++ ys)
+sent_more before i xs ys old new e f = f ∙ ap (λ l. l ++ sent_by i ys) e ∙ append_assoc before (sent_by i xs) (sent_by i ys) ∙ ap (λ l. before ++ l) (sym (sent_by-append i xs ys))
+
+pub settled-none : (pool : List Request) → settled [] pool ≡ pool
+settled-none [] = refl
+settled-none (r ∷ rs) = ap (λ l. r ∷ l) (settled-none rs)
+
+has_id-append : (id : ReqId) (xs ys : List Request) → has_id id (xs ++ ys) ≡ (has_id id xs || has_id id ys)
+has_id-append id [] ys = refl
+has_id-append id (x ∷ xs) ys = grind (arith, has_id-append id xs ys)
+
+pub settled-append : (xs ys pool : List Request) → settled (xs ++ ys) pool ≡ settled ys (settled xs pool)
+settled-append xs ys [] = refl
+settled-append xs ys (r ∷ rs) =
+    let rest = settled-append xs ys rs in
+    elim (cases_Bool (has_id r.id xs)) [
+      inl e ↦ rw (has_id-append r.id xs ys, e) rest
+    | inr e ↦ elim (cases_Bool (has_id r.id ys)) [
+        inl f ↦ rw (has_id-append r.id xs ys, e, f) rest
+      | inr f ↦ rw (has_id-append r.id xs ys, e, f) (ap (λ l. r ∷ l) rest)
+      ]
+    ]
+
+-- THE CALLS
+
+due-same : (a c : Accepts) (p q : Place) (w v : View) → a ≡ c → p ≡ q → w ≡ v → due a p w ≡ due c q v
+due-same a c p q w v e f g = ap (λ x. due x p w) e ∙ ap (λ x. due c x w) f ∙ ap (λ x. due c q x) g
+
+-- what the box of seals accepts now
+accepts_now : (b : Before) (m : Making Core) (told : Act) (node : Node) (outside : Outside) → Makes b m told node outside → is_sealed outside.seat.seals ≡ accepts_in b m
+accepts_now b m told node outside h = ap (λ (s : Seat). is_sealed s.seals) h.seat
+
+-- the same but for the view
+pub Makes-view : (b : Before) (m : Making Core) (told next : Act) (node new : Node) (outside : Outside) → Makes b m told node outside → new.id ≡ node.id → new.place ≡ node.place → new.pool.items ≡ node.pool.items → new.view ≡ after_act next m.state.view → Makes b m next new outside
+Makes-view b m told next node new outside h id place pool view = record {
+  id = id ∙ h.id;
+  place = place ∙ h.place;
+  view = view;
+  me = h.me;
+  pool = pool ∙ h.pool;
+  network = h.network;
+  seat = h.seat;
+  number = h.number;
+  text = h.text;
+}
+
+pub view-told : (b : Before) (m : Making Core) (node : Node) (outside : Outside) (told : Act) (w : View) → told ≡ due_answer (is_sealed outside.seat.seals) node.place (at_place node.place node.view) → w ≡ after_due (is_sealed outside.seat.seals) node.place node.view → Makes b m act_of.Kept node outside → w ≡ after_act told m.state.view
+view-told b m node outside told w answer after h =
+    after ∙ ap (λ a. after_act a (at_place node.place node.view)) (sym answer) ∙ ap (λ v. after_act told v) (at_place-at node.place node.view node.is_at ∙ h.view)
+
+pub IsDue-told : (b : Before) (m : Making Core) (node : Node) (outside : Outside) (told : Act) → told ≡ due_answer (is_sealed outside.seat.seals) node.place (at_place node.place node.view) → Makes b m act_of.Kept node outside → IsDue b m told
+IsDue-told b m node outside told answer h =
+    let accepts = is_sealed outside.seat.seals in
+    let w = at_place node.place node.view in
+    ap act_in answer ∙ act_in-due_answer accepts node.place w ∙ due-same accepts (accepts_in b m) node.place m.state.place w m.state.view (accepts_now b m act_of.Kept node outside h) h.place (at_place-at node.place node.view node.is_at ∙ h.view)
+
+-- AN ACCEPTANCE, with these messages before the Prepare
+
+pub record Sends (old new : Outside) (id : ℕ) (posts : List Post) : Type 0 where
+  pub network : map entry_of new.network.items ≡ map entry_of old.network.items ++ sent_by id posts
+  pub seat : new.seat ≡ old.seat
+  pub number : new.number ≡ old.number
+  pub text : new.text ≡ old.text
+
+pub makes_accepted-sent : (b : Before) (m : Making Core) (block : Block) (first : List Message) (node : Node) (old new : Outside) → Makes b m (act_of.Accept block) node old → Sends old new node.id (flat_map (to_all node.place.config.members node.id) (first ++ prepare_message node.place node.view block ∷ [])) → Makes b (makes_accepted core_ways block first m) act_of.Kept node new
+makes_accepted-sent b m block first node old new h s =
+    let fact = fact_of.Accepted m.state.view.me m.state.place.config.number m.state.view.view m.state.place.height (block_hash block) in
+    let posts = flat_map (to_all m.state.place.config.members m.state.view.me) (first ++ prepare_message m.state.place m.state.view block ∷ []) in
+    let sent : map entry_of new.network.items ≡ map entry_of old.network.items ++ sent_by b.id posts = rw h.me (rw (h.id, h.place, h.view) at s.network) in
+    record {
+      id = h.id;
+      place = h.place;
+      view = h.view;
+      me = h.me;
+      pool = h.pool ∙ ap (λ rs. settled rs b.pool) (sym (flat_map-quiet requests_in m.facts fact refl));
+      network = sent_more b.network b.id m.posts posts _ _ h.network sent;
+      seat = s.seat ∙ h.seat;
+      number = s.number ∙ h.number;
+      text = ap string_bytes s.text ∙ h.text ∙ ap (λ t. b.text ++ t) (sym (flat_map-quiet (fact_text b.number) m.facts fact refl));
+    }
+
+-- A PREPARATION
+
+-- the statement, the seat after it is signed, and the own Commit as it is sent and kept
+pub record Signs (node : Node) (old new : Outside) (digest : List ℕ) (own : Commit) : Type 0 where
+  pub commit : own ≡ commit_message node.place node.view digest (next_sig old.seat)
+  pub seat : new.seat ≡ with_seal old.seat (commit_text node.place.config.number node.view.view node.place.height digest)
+  pub network : map entry_of new.network.items ≡ map entry_of old.network.items ++ sent_by node.id (to_all node.place.config.members node.id (message_of.Commit own))
+  pub number : new.number ≡ old.number
+  pub text : new.text ≡ old.text
