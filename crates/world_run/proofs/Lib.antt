@@ -1,2 +1,5 @@
+pub mod GoingLemmas
+pub mod ListLemmas
 pub mod MakingLemmas
+pub mod StepLemmas
 pub mod ViewLemmas

@@ -1,16 +1,22 @@
 //! The lines that a world prints.
-ghost use Rattle.std.specs.Prelude.{◌≡◌, ◌++◌, OnOk, string_bytes, length};
+ghost use Rattle.std.specs.Prelude.{◌≡◌, ◌++◌, OnOk, codes, decimal, length, string_bytes};
+ghost use Rattle.std.specs.List.{flat_map};
+ghost use Rattle.signer_edge.specs.Certificates.{signers_in};
 ghost use Rattle.ord_types.specs.declared.values.Proof.TheVariants as proof_of;
 ghost use Rattle.safety_model.specs.Facts.{signers_of};
 ghost use Rattle.world_model.specs.Texts.{
   admitted_text,
+  answer_text,
   block_front_text,
   block_text,
   deliver_text,
   flush_text,
+  first_id_text,
   genesis_text,
   id_text,
+  ids_joined,
   limit_text,
+  line_end,
   malformed_text,
   node_text,
   pending_text,
@@ -21,8 +27,10 @@ ghost use Rattle.world_model.specs.Texts.{
   tick_text,
   view_text,
 };
+ghost use Rattle.world_run.specs.Answers.{answer_of};
 
-use ord_types::{Block, Cert, ReqId};
+use crate::pool::Answer;
+use ord_types::{Block, Cert, ReqId, Request, Sig};
 use std::alloc::AllocError;
 
 #[tactic(auto, unfolding(world_model::specs::Texts::genesis_text))]
@@ -68,14 +76,14 @@ pub(crate) fn put_limit(text: &mut String, number: u64, limit: u64) -> Result<()
 }
 
 #[tactic(auto, unfolding(world_model::specs::Texts::admitted_text))]
-pub(crate) fn put_admitted(text: &mut String, number: u64, node: u32) -> Result<(), AllocError>
+fn put_admitted(text: &mut String, number: u64, node: u32) -> Result<(), AllocError>
     ensures { OnOk result (string_bytes text.new ≡ string_bytes text.old ++ admitted_text number node) }
 {
     write!(text, "{number} submit {node} admitted\n")
 }
 
 #[tactic(auto, unfolding(world_model::specs::Texts::malformed_text))]
-pub(crate) fn put_malformed(
+fn put_malformed(
     text: &mut String,
     number: u64,
     node: u32,
@@ -87,10 +95,26 @@ pub(crate) fn put_malformed(
 }
 
 #[tactic(auto, unfolding(world_model::specs::Texts::pending_text))]
-pub(crate) fn put_pending(text: &mut String, number: u64, node: u32) -> Result<(), AllocError>
+fn put_pending(text: &mut String, number: u64, node: u32) -> Result<(), AllocError>
     ensures { OnOk result (string_bytes text.new ≡ string_bytes text.old ++ pending_text number node) }
 {
     write!(text, "{number} submit {node} known pending\n")
+}
+
+/// What a pool answered.
+pub(crate) fn put_answer(
+    text: &mut String,
+    number: u64,
+    node: u32,
+    answer: Answer,
+) -> Result<(), AllocError>
+    ensures { OnOk result (string_bytes text.new ≡ string_bytes text.old ++ answer_text number node (answer_of answer)) }
+{
+    match answer {
+        Answer::Admitted => put_admitted(text, number, node),
+        Answer::Malformed(at) => put_malformed(text, number, node, at),
+        Answer::KnownPending => put_pending(text, number, node),
+    }
 }
 
 #[tactic(auto, unfolding(world_model::specs::Texts::block_front_text))]
@@ -130,25 +154,62 @@ fn put_id(text: &mut String, id: ReqId) -> Result<(), AllocError>
     write!(text, "{client}:{serial}")
 }
 
-fn put_other_signer(text: &mut String, signer: u32) -> Result<(), AllocError> {
+/// The id of the first request.
+fn put_first_id(text: &mut String, requests: &[Request]) -> Result<(), AllocError>
+    ensures { OnOk result (string_bytes text.new ≡ string_bytes text.old ++ first_id_text requests.now) }
+{
+    match requests {
+        [first, ..] => put_id(text, first.id),
+        [] => Ok(()),
+    }
+}
+
+fn put_other_signer(text: &mut String, signer: u32) -> Result<(), AllocError>
+    ensures { OnOk result (string_bytes text.new ≡ string_bytes text.old ++ (codes "," ++ decimal signer)) }
+{
     write!(text, ",{signer}")
 }
 
-fn put_signer(text: &mut String, signer: u32) -> Result<(), AllocError> {
+fn put_signer(text: &mut String, signer: u32) -> Result<(), AllocError>
+    ensures { OnOk result (string_bytes text.new ≡ string_bytes text.old ++ decimal signer) }
+{
     write!(text, "{signer}")
 }
 
+/// The ids of all signers but the first.
+fn put_other_signers(text: &mut String, sigs: &[Sig]) -> Result<(), AllocError>
+    ensures { OnOk result (string_bytes text.new ≡ string_bytes text.old ++ flat_map (λ other. codes "," ++ decimal other) (signers_in sigs.now)) }
+{
+    for sig in sigs {
+        put_other_signer(text, sig.signer)?;
+    }
+    Ok(())
+}
+
+/// The ids of signers, joined by commas.
+fn put_ids(text: &mut String, sigs: &[Sig]) -> Result<(), AllocError>
+    ensures { OnOk result (string_bytes text.new ≡ string_bytes text.old ++ ids_joined (signers_in sigs.now)) }
+{
+    if let [first, rest @ ..] = sigs {
+        put_signer(text, first.signer)?;
+        put_other_signers(text, rest)?;
+    }
+    Ok(())
+}
+
+#[tactic(auto, unfolding(world_model::specs::Texts::signers_front))]
 fn put_signers(text: &mut String, cert: &Cert) -> Result<(), AllocError>
     ensures { OnOk result (string_bytes text.new ≡ string_bytes text.old ++ signers_text (proof_of.Bft cert.now)) }
 {
     text.push_str(" signers ")?;
-    if let [first, rest @ ..] = cert.sigs.as_slice() {
-        put_signer(text, first.signer)?;
-        for sig in rest {
-            put_other_signer(text, sig.signer)?;
-        }
-    }
-    Ok(())
+    put_ids(text, cert.sigs.as_slice())
+}
+
+#[tactic(auto, unfolding(world_model::specs::Texts::line_end))]
+fn put_line_end(text: &mut String) -> Result<(), AllocError>
+    ensures { OnOk result (string_bytes text.new ≡ string_bytes text.old ++ line_end) }
+{
+    text.push_str("\n")
 }
 
 /// The line of a delivered block.
@@ -164,11 +225,9 @@ pub(crate) fn put_block(
     put_block_front(text, number, node, block)?;
     put_view(text, cert.view)?;
     put_requests_count(text, block.requests.len())?;
-    if let [first, ..] = block.requests.as_slice() {
-        put_id(text, first.id)?;
-    }
+    put_first_id(text, block.requests.as_slice())?;
     put_signers(text, cert)?;
-    text.push_str("\n")
+    put_line_end(text)
 }
 
 #[tactic(auto, unfolding(world_model::specs::Texts::node_text))]

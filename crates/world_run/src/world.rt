@@ -26,10 +26,9 @@ ghost use Rattle.world_run.specs.Going.{have_come};
 
 use crate::network::Entry;
 use crate::node::{Node, Outside};
-use crate::pool::{Answer, submit};
+use crate::pool::submit;
 use crate::texts::{
-    put_admitted, put_deliver, put_flush, put_limit, put_malformed, put_node, put_pending,
-    put_refused, put_sent, put_tick,
+    put_answer, put_deliver, put_flush, put_limit, put_node, put_refused, put_sent, put_tick,
 };
 use bft_wire::Message;
 use ord_types::{Batch, Bytes, Config, Kind, List, Mode, NoMemory, ReqId, ReqKind, Request};
@@ -51,6 +50,7 @@ pub(crate) struct World {
     pub(crate) outside: Outside,
     /// The place of the first entry that may wait: those before it have come.
     pub(crate) first_waiting: usize,
+    ghost within: { first_waiting ≤ length outside.network.items },
     ghost passed: { have_come first_waiting outside.network.items ≡ true },
 }
 
@@ -138,7 +138,9 @@ impl World {
         ensures number { OnOk result (self.new.outside.number ≡ self.old.outside.number) }
     {
         self.give_seat(id)?;
+        let first_waiting = mem::replace(&mut self.first_waiting, 0);
         self.nodes[place].tick(&mut self.outside)?;
+        self.first_waiting = first_waiting;
         self.within_limit()
     }
 
@@ -183,7 +185,9 @@ impl World {
         ensures number { OnOk result (self.new.outside.number ≡ self.old.outside.number) }
     {
         self.give_seat(id)?;
+        let first_waiting = mem::replace(&mut self.first_waiting, 0);
         self.nodes[place].take(from, message, &mut self.outside)?;
+        self.first_waiting = first_waiting;
         self.within_limit()
     }
 
@@ -193,8 +197,6 @@ impl World {
         ensures limit { IfOk result (λ ending. IfSome ending IsLimit) }
         ensures turned { IfOk result (λ ending. (entry : worlds.Entry) → slice_get (world_of self.old).network at ≡ Some entry → Turned (delivery core_setting self.old.outside.number at entry (world_of self.old)) (string_bytes self.old.outside.text) (string_bytes self.new.outside.text) (world_of self.new) ending) }
         ensures number { OnOk result (self.new.outside.number ≡ self.old.outside.number) }
-        ensures others { OnOk result ((d : worlds.Entry) (k : ℕ) → k < vec_len self.old.outside.network → k ≢ at → slice_index_or (world_of self.new).network k d ≡ slice_index_or (world_of self.old).network k d) }
-        ensures longer { OnOk result (vec_len self.old.outside.network ≤ vec_len self.new.outside.network) }
     {
         let entry = &mut self.outside.network[at];
         entry.came = true;
@@ -304,13 +306,7 @@ impl World {
         let kind = ReqKind::Ordinary;
         let node = &mut self.nodes[place];
         let answer = submit(&mut node.pool, Request { kind, id, payload })?;
-        let number = self.outside.number;
-        let text = &mut self.outside.text;
-        match answer {
-            Answer::Admitted => put_admitted(text, number, to)?,
-            Answer::Malformed(at) => put_malformed(text, number, to, at)?,
-            Answer::KnownPending => put_pending(text, number, to)?,
-        }
+        put_answer(&mut self.outside.text, self.outside.number, to, answer)?;
         Ok(())
     }
 

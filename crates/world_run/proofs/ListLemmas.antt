@@ -1,0 +1,90 @@
+-- Lemmas on finding and replacing one of a list, and on entries that have come.
+use Rattle.std.proofs.Common.{◌≡◌, ℕ, zero, suc, ◌+◌, ◌<◌, ◌≤◌, Bool, true, false, not, cond, eqb, ltb, List, [], ◌∷◌, ◌++◌, length, map, take, get_or, set, position, slice_get, Option, Some, None, refl, sym, ap, ◌∙◌, arith}
+use Rattle.std.specs.Option.{option_map}
+use Rattle.std.proofs.lemmas.Bool.{eqb-true}
+use Rattle.node_model.specs.Cores.{Core}
+use Rattle.std.specs.List.{find, list_all, position_or_len}
+use Rattle.std.proofs.lemmas.Bool.Decides.{nat_tests}
+use Rattle.std.proofs.lemmas.List.{take-append-le, take-map, length-map, length-append}
+use Rattle.std.proofs.lemmas.List.Folds.{find_at, list_all-map}
+use Rattle.std.proofs.lemmas.List.Quantifiers.{position-Some}
+use Rattle.std.proofs.lemmas.Option.{cond_some, slice_get-get_or, slice_get_past}
+use Rattle.world_model.specs.Worlds as worlds
+use Rattle.world_run.specs.Entries.{entry_of}
+use Rattle.world_run.specs.Going.{have_come}
+use Rattle.world_run.specs.Nodes.{node_of}
+use Rattle.world_run.specs.declared.network.Entry.{Entry}
+use Rattle.world_run.specs.declared.node.Node.{Node}
+
+option_map_choice : {X Y : Type 0} (f : X → Y) (b : Bool) (x y : Option X) → option_map f (cond b x y) ≡ cond b (option_map f x) (option_map f y)
+option_map_choice f true x y = refl
+option_map_choice f false x y = refl
+
+pub find-map : {X Y : Type 0} (f : X → Y) (p : Y → Bool) (xs : List X) → find p (map f xs) ≡ option_map f (find (λ x. p (f x)) xs)
+find-map f p [] = refl
+find-map {X} {Y} f p (x ∷ xs) =
+    ap (λ (o : Option Y). cond (p (f x)) (Some (f x)) o) (find-map f p xs) ∙ sym (option_map_choice f (p (f x)) (Some x) (find (λ x. p (f x)) xs))
+
+not_within : (at n : ℕ) → cond (ltb at n) (Some at) None ≡ None → n ≤ at
+not_within at n h = grind (arith, nat_tests)
+
+-- the first node of this id stands at the place
+abbrev pub HasPlace : ℕ → List Node → ℕ → Type 0
+HasPlace id nodes place = position (λ (node : Node). eqb node.id id) nodes ≡ Some place
+
+pub node_at_place : (id : ℕ) (nodes : List Node) (place : ℕ) (d : Node) → HasPlace id nodes place → worlds.node_at id (map node_of nodes) ≡ Some (node_of (get_or nodes place d))
+node_at_place id nodes place d h =
+    let p = λ (node : Node). eqb node.id id in
+    let within = (position-Some p nodes place d h).0 in
+    let at = (cond_some _ _ _ h).1 in
+    find-map node_of (λ node. eqb node.id id) nodes ∙ ap (option_map node_of) (find_at p nodes ∙ ap (slice_get nodes) at ∙ slice_get-get_or nodes place d within)
+
+pub node_at_read : (id : ℕ) (nodes : List Node) (place : ℕ) (node : Node) → HasPlace id nodes place → node ≡ get_or nodes place node → worlds.node_at id (map node_of nodes) ≡ Some (node_of node)
+node_at_read id nodes place node h is = node_at_place id nodes place node h ∙ ap (λ (n : Node). Some (node_of n)) (sym is)
+
+pub node_at_none : (id : ℕ) (nodes : List Node) → position (λ (node : Node). eqb node.id id) nodes ≡ None → worlds.node_at id (map node_of nodes) ≡ None
+node_at_none id nodes h =
+    find-map node_of (λ node. eqb node.id id) nodes
+    ∙ ap (option_map node_of) (find_at (λ (node : Node). eqb node.id id) nodes ∙ slice_get_past nodes (position_or_len (λ (node : Node). eqb node.id id) nodes) (not_within (position_or_len (λ (node : Node). eqb node.id id) nodes) (length nodes) h))
+
+pub id_at_place : (id : ℕ) (nodes : List Node) (place : ℕ) (d : Node) → HasPlace id nodes place → (get_or nodes place d).id ≡ id
+id_at_place id nodes place d h = eqb-true _ _ (position-Some (λ (node : Node). eqb node.id id) nodes place d h).1
+
+pub place_within : (id : ℕ) (nodes : List Node) (place : ℕ) (d : Node) → HasPlace id nodes place → place < length nodes
+place_within id nodes place d h = (position-Some (λ (node : Node). eqb node.id id) nodes place d h).0
+
+-- the head is replaced, or the rest
+with_node_here : (new x : Node) (xs : List Node) (i : ℕ) (b : Bool)
+    → (position_or_len (λ (node : Node). eqb node.id new.id) xs < length xs → worlds.with_node (node_of new) (map node_of xs) ≡ map node_of (set xs (position_or_len (λ (node : Node). eqb node.id new.id) xs) new))
+    → i ≡ cond (not b) (1 + position_or_len (λ (node : Node). eqb node.id new.id) xs) 0 → i < length (x ∷ xs)
+    → cond b (node_of new ∷ map node_of xs) (node_of x ∷ worlds.with_node (node_of new) (map node_of xs)) ≡ map node_of (set (x ∷ xs) i new)
+with_node_here new x xs i true rest e l = rw e refl
+with_node_here new x xs i false rest e l =
+    let n = position_or_len (λ (node : Node). eqb node.id new.id) xs in
+    let next : i ≡ suc n = omega arith in
+    rw next (ap (λ (ns : List (worlds.Node Core)). node_of x ∷ ns) (rest (omega arith)))
+
+with_node_from : (new : Node) (nodes : List Node) (i : ℕ) → i ≡ position_or_len (λ (node : Node). eqb node.id new.id) nodes → i < length nodes → worlds.with_node (node_of new) (map node_of nodes) ≡ map node_of (set nodes i new)
+with_node_from new [] i e l = absurd (omega arith)
+with_node_from new (x ∷ xs) i e l =
+    with_node_here new x xs i (eqb x.id new.id) (with_node_from new xs (position_or_len (λ (node : Node). eqb node.id new.id) xs) refl) e l
+
+pub with_node_at_place : (id : ℕ) (nodes : List Node) (place : ℕ) (d new : Node) → HasPlace id nodes place → new.id ≡ id → worlds.with_node (node_of new) (map node_of nodes) ≡ map node_of (set nodes place new)
+with_node_at_place id nodes place d new h e =
+    with_node_from new nodes place (rw e (sym (cond_some _ _ _ h).1)) (place_within id nodes place d h)
+
+-- ENTRIES that have come
+
+pub have_come_of : (n : ℕ) (network : List Entry) → have_come n network ≡ list_all (λ (e : worlds.Entry). e.came) (take n (map entry_of network))
+have_come_of n network = sym (ap (list_all (λ (e : worlds.Entry). e.came)) (take-map entry_of n network) ∙ list_all-map (λ (e : worlds.Entry). e.came) entry_of (take n network))
+
+-- more entries behind them change nothing
+pub have_come_longer : (n : ℕ) (old new : List Entry) (more : List worlds.Entry) → n ≤ length old → map entry_of new ≡ map entry_of old ++ more → have_come n old ≡ true → have_come n new ≡ true
+have_come_longer n old new more l e h =
+    have_come_of n new
+    ∙ ap (λ (es : List worlds.Entry). list_all (λ (e : worlds.Entry). e.came) (take n es)) e
+    ∙ ap (list_all (λ (e : worlds.Entry). e.came)) (take-append-le n (map entry_of old) more (omega (arith, length-map old entry_of)))
+    ∙ sym (have_come_of n old) ∙ h
+
+pub length_longer : (old new : List Entry) (more : List worlds.Entry) → map entry_of new ≡ map entry_of old ++ more → length old ≤ length new
+length_longer old new more e = omega (arith, length-map old entry_of, length-map new entry_of, length-append (map entry_of old) more, ap length e)
