@@ -1,5 +1,5 @@
 -- What a call of a node adds to the step so far.
-use Rattle.std.proofs.Common.{◌≡◌, ℕ, ◌+◌, Bool, true, false, ◌&&◌, ◌||◌, ◌==◌, not, cond, List, [], ◌∷◌, ◌++◌, length, map, Option, Some, None, Result, Ok, Err, IfOk, OnOk, refl, sym, ap, ◌∙◌, ◌⊎◌, inl, inr, append_assoc, arith, string_bytes}
+use Rattle.std.proofs.Common.{◌≡◌, ℕ, ◌+◌, Bool, true, false, ◌&&◌, ◌||◌, ◌==◌, not, cond, List, [], ◌∷◌, ◌++◌, length, map, Option, Some, None, Result, Ok, Err, IfOk, OnOk, refl, sym, ap, ◌∙◌, ◌⊎◌, inl, inr, append_assoc, arith, string_bytes, Vec, Global}
 use Rattle.std.specs.List.{filter, flat_map, list_any}
 use Rattle.std.proofs.lemmas.Bool.{cases_Bool, ne_eqb, eq-eqb}
 use Rattle.std.proofs.lemmas.List.{append-nil, map-append}
@@ -7,6 +7,7 @@ use Rattle.std.proofs.lemmas.List.Concat.{flat_map-append}
 use Rattle.ord_types.specs.Hashes.{block_hash}
 use Rattle.ord_types.specs.declared.values.Place.{Place}
 use Rattle.ord_types.specs.declared.values.Cert.{Cert}
+use Rattle.ord_types.specs.declared.values.Proof.TheVariants as proof_of
 use Rattle.ord_types.specs.declared.values.Sig.{Sig}
 use Rattle.ord_types.specs.declared.values.ReqId.{ReqId}
 use Rattle.safety_model.specs.Blocks.{Block, Request}
@@ -26,15 +27,16 @@ use Rattle.node_model.specs.Answers.{after_act, after_due, after_propose, after_
 use Rattle.node_model.specs.Cores.{Core, core_comes, core_ways, next_place}
 use Rattle.node_model.specs.Steps.{Event, FromMember, Keys, Making, Post, Tick, accept_round, begins, commit_message, makes_accepted, makes_delivered, makes_prepared, next, own_rule, prepare_message, prepare_round, preprepare_message, rounds, to_all, votes}
 use Rattle.world_model.specs.Pools.{has_id, settled}
-use Rattle.world_model.specs.Texts.{fact_text}
+use Rattle.world_model.specs.Texts.{block_text, fact_text}
 use Rattle.world_model.specs.Worlds.{Entry, keys_of, requests_in, seals_of, sent_by}
 use Rattle.world_run.specs.Entries.{entry_of}
 use Rattle.world_run.specs.Making.{Before, HasNoneToAccept, IsDelivery, IsDue, Makes, Stands, accepted_in, accepts_in, act_in, keys_before, prepared_in}
 use Rattle.world_run.specs.Nodes.{core_of}
 use Rattle.world_run.specs.Standing.{IsAt}
+use Rattle.world_run.specs.declared.network.Entry as entries
 use Rattle.world_run.specs.declared.node.Node.{Node}
 use Rattle.world_run.specs.declared.node.Outside.{Outside}
-use Rattle.world_run.proofs.ViewLemmas.{acceptance_due-accepted, accepted-kept_after, act_in-due_answer, act_in-vote_answer, at_place-at, is_prepared-kept_after, me-after_act, me-kept_after, preparation_due-accepted, preparation_due-prepared}
+use Rattle.world_run.proofs.ViewLemmas.{acceptance_due-accepted, accepted-kept_after, act_in-due_answer, act_in-vote_answer, at_place-at, is_prepared-kept_after, me-after_act, me-at_place, me-kept_after, preparation_due-accepted, preparation_due-prepared}
 
 pub IfOk-with : {T E : Type 0} (r : Result T E) (P S : T → Type 0) (Q : Type 0) → ((x : T) → P x → Q → S x) → IfOk r P → OnOk r Q → IfOk r S
 IfOk-with (Ok x) P S Q f p q = f x p q
@@ -145,3 +147,112 @@ pub record Signs (node : Node) (old new : Outside) (digest : List ℕ) (own : Co
   pub network : map entry_of new.network.items ≡ map entry_of old.network.items ++ sent_by node.id (to_all node.place.config.members node.id (message_of.Commit own))
   pub number : new.number ≡ old.number
   pub text : new.text ≡ old.text
+
+own_letter : ℕ → Commit → Letter
+own_letter id commit = record { from = id; message = message_of.Commit commit }
+
+-- the box after the statement was signed
+sealed-more : (b : Before) (signed : List (List ℕ)) (statement : List ℕ) (old new : Seat) → old ≡ record { id = b.id; seals = b.seals ++ seals_of b.id signed } → new ≡ with_seal old statement → new ≡ record { id = b.id; seals = b.seals ++ seals_of b.id (signed ++ statement ∷ []) }
+sealed-more b signed statement old new e f =
+    f ∙ ap (λ s. with_seal s statement) e ∙ ap (λ (l : List Seal). record { id = b.id; seals = l }) (append_assoc b.seals (seals_of b.id signed) (seals_of b.id (statement ∷ [])) ∙ ap (λ l. b.seals ++ l) (sym (seals_of-append b.id signed (statement ∷ []))))
+
+-- what a vote is answered by, and what it leaves
+pub record Votes (accepts : Accepts) (place : Place) (before : View) (letter : Letter) (told : Act) (left : View) : Type 0 where
+  pub answer : told ≡ vote_answer accepts place (at_place place before) letter
+  pub after : left ≡ after_vote accepts place before letter
+
+kept_after-same : (a c : Accepts) (p q : Place) (w v : View) (x y : Letter) → a ≡ c → p ≡ q → w ≡ v → x ≡ y → kept_after a p w x ≡ kept_after c q v y
+kept_after-same a c p q w v x y e f g h =
+    ap (λ z. kept_after z p w x) e ∙ ap (λ z. kept_after c z w x) f ∙ ap (λ z. kept_after c q z x) g ∙ ap (λ z. kept_after c q v z) h
+
+module _ (b : Before) (m : Making Core) (digest : List ℕ) (node : Node) (old new : Outside) (own : Commit) (h : Makes b m (act_of.Prepare digest) node old) (s : Signs node old new digest own) where
+  commit-same : own ≡ commit_message m.state.place m.state.view digest ((keys_before b).signs m.signed)
+  commit-same = s.commit ∙ rw (h.place, h.view, h.seat)
+
+  seat-same : new.seat ≡ record { id = b.id; seals = b.seals ++ seals_of b.id (m.signed ++ commit_text m.state.place.config.number m.state.view.view m.state.place.height digest ∷ []) }
+  seat-same = sealed-more b m.signed _ old.seat new.seat h.seat (s.seat ∙ rw (h.place, h.view))
+
+  accepts-same : is_sealed new.seat.seals ≡ accepts_in b (makes_prepared core_ways (keys_before b) digest m)
+  accepts-same = ap (λ (seat : Seat). is_sealed seat.seals) seat-same
+
+  letter-same : own_letter node.id own ≡ own_letter m.state.view.me (commit_message m.state.place m.state.view digest ((keys_before b).signs m.signed))
+  unfolding own_letter
+  letter-same = ap (λ c. own_letter node.id c) commit-same ∙ ap (λ i. own_letter i (commit_message m.state.place m.state.view digest ((keys_before b).signs m.signed))) (h.id ∙ sym h.me)
+
+  kept-same : kept_after (is_sealed new.seat.seals) node.place (at_place node.place node.view) (own_letter node.id own) ≡ (makes_prepared core_ways (keys_before b) digest m).state.view
+  unfolding own_letter
+  kept-same = kept_after-same _ _ node.place m.state.place (at_place node.place node.view) (after_act (act_of.Prepare digest) m.state.view) (own_letter node.id own) _ accepts-same h.place (at_place-at node.place node.view node.is_at ∙ h.view) letter-same
+
+  pub makes_prepared-sent : (told : Act) (now : Node) → now.id ≡ node.id → now.place ≡ node.place → now.pool.items ≡ node.pool.items → Votes (is_sealed new.seat.seals) node.place node.view (record { from = node.id; message = message_of.Commit own }) told now.view → Makes b (makes_prepared core_ways (keys_before b) digest m) told now new
+  unfolding own_letter
+  makes_prepared-sent told now id place pool v =
+      let made = makes_prepared core_ways (keys_before b) digest m in
+      let fact = fact_of.Prepared m.state.view.me m.state.place.config.number m.state.view.view m.state.place.height digest in
+      let commit = commit_message m.state.place m.state.view digest ((keys_before b).signs m.signed) in
+      let posts = to_all m.state.place.config.members m.state.view.me (message_of.Commit commit) in
+      let sent : map entry_of new.network.items ≡ map entry_of old.network.items ++ sent_by b.id posts = s.network ∙ ap (λ i. map entry_of old.network.items ++ sent_by i (to_all node.place.config.members i (message_of.Commit own))) h.id ∙ ap (λ (p : Place). map entry_of old.network.items ++ sent_by b.id (to_all p.config.members b.id (message_of.Commit own))) h.place ∙ ap (λ x. map entry_of old.network.items ++ sent_by b.id (to_all m.state.place.config.members b.id (message_of.Commit x))) commit-same ∙ ap (λ i. map entry_of old.network.items ++ sent_by b.id (to_all m.state.place.config.members i (message_of.Commit commit))) (sym h.me) in
+      record {
+        id = id ∙ h.id;
+        place = place ∙ h.place;
+        view = v.after ∙ ap (λ a. after_act a (kept_after (is_sealed new.seat.seals) node.place (at_place node.place node.view) (own_letter node.id own))) (sym v.answer) ∙ ap (λ w. after_act told w) kept-same;
+        me = me-kept_after (accepts_in b made) m.state.place (after_act (act_of.Prepare digest) m.state.view) (record { from = m.state.view.me; message = message_of.Commit commit }) ∙ h.me;
+        pool = pool ∙ h.pool ∙ ap (λ rs. settled rs b.pool) (sym (flat_map-quiet requests_in m.facts fact refl));
+        network = sent_more b.network b.id m.posts posts _ _ h.network sent;
+        seat = seat-same;
+        number = s.number ∙ h.number;
+        text = ap string_bytes s.text ∙ h.text ∙ ap (λ t. b.text ++ t) (sym (flat_map-quiet (fact_text b.number) m.facts fact refl));
+      }
+
+  pub IsDue-sent : (told : Act) (left : View) → Votes (is_sealed new.seat.seals) node.place node.view (record { from = node.id; message = message_of.Commit own }) told left → IsDue b (makes_prepared core_ways (keys_before b) digest m) told
+  unfolding own_letter
+  IsDue-sent told left v =
+      let made = makes_prepared core_ways (keys_before b) digest m in
+      let accepts = is_sealed new.seat.seals in
+      let w = at_place node.place node.view in
+      let letter = own_letter node.id own in
+      ap act_in v.answer ∙ act_in-vote_answer accepts node.place w letter ∙ due-same accepts (accepts_in b made) node.place m.state.place (kept_after accepts node.place w letter) made.state.view accepts-same h.place kept-same
+
+-- an acceptance with no message before the Prepare
+pub makes_accepted-alone : (b : Before) (m : Making Core) (block : Block) (node : Node) (old new : Outside) → Makes b m (act_of.Accept block) node old → Sends old new node.id (to_all node.place.config.members node.id (prepare_message node.place node.view block)) → Makes b (makes_accepted core_ways block [] m) act_of.Kept node new
+makes_accepted-alone b m block node old new h s =
+    let posts = to_all node.place.config.members node.id (prepare_message node.place node.view block) in
+    makes_accepted-sent b m block [] node old new h (record { network = s.network ∙ ap (λ p. map entry_of old.network.items ++ sent_by node.id p) (sym (append-nil posts)); seat = s.seat; number = s.number; text = s.text })
+
+-- A DELIVERY
+
+pub record Delivers (block : Block) (cert : Cert) (node now : Node) (old new : Outside) : Type 0 where
+  pub id : now.id ≡ node.id
+  pub place : now.place ≡ next_place node.place block cert
+  pub view : now.view ≡ at_place now.place node.view
+  pub pool : now.pool.items ≡ settled block.requests node.pool.items
+  pub network : new.network ≡ old.network
+  pub seat : new.seat ≡ old.seat
+  pub number : new.number ≡ old.number
+  pub text : string_bytes new.text ≡ string_bytes old.text ++ block_text old.number node.id block (proof_of.Bft cert)
+
+pub makes_delivered-done : (b : Before) (m : Making Core) (block : Block) (cert : Cert) (node now : Node) (old new : Outside) → Delivers block cert node now old new → Makes b m (act_of.Deliver block cert) node old → Makes b (makes_delivered core_ways block cert m) act_of.Kept now new
+makes_delivered-done b m block cert node now old new d h =
+    let fact = fact_of.Delivered m.state.view.me block (proof_of.Bft cert) in
+    let line : block_text old.number node.id block (proof_of.Bft cert) ≡ fact_text b.number fact = rw (h.number, h.id, h.me) in
+    record {
+      id = d.id ∙ h.id;
+      place = d.place ∙ ap (λ p. next_place p block cert) h.place;
+      view = d.view ∙ ap (λ p. at_place p node.view) (d.place ∙ ap (λ p. next_place p block cert) h.place) ∙ ap (λ w. at_place (next_place m.state.place block cert) w) h.view;
+      me = me-at_place (next_place m.state.place block cert) m.state.view ∙ h.me;
+      pool = d.pool ∙ ap (λ rs. settled block.requests rs) h.pool ∙ sym (settled-append (flat_map requests_in m.facts) block.requests b.pool) ∙ ap (λ rs. settled rs b.pool) (sym (flat_map-one requests_in m.facts fact));
+      network = ap (λ (v : Vec entries.Entry Global). map entry_of v.items) d.network ∙ h.network;
+      seat = d.seat ∙ h.seat;
+      number = d.number ∙ h.number;
+      text = d.text ∙ ap (λ t. t ++ block_text old.number node.id block (proof_of.Bft cert)) h.text ∙ append_assoc b.text (flat_map (fact_text b.number) m.facts) (block_text old.number node.id block (proof_of.Bft cert)) ∙ ap (λ t. b.text ++ (flat_map (fact_text b.number) m.facts ++ t)) line ∙ ap (λ t. b.text ++ t) (sym (flat_map-one (fact_text b.number) m.facts fact));
+    }
+
+delivery-due : (o : Option (Block × Cert)) (block : Block) (cert : Cert) → Some (act_of.Deliver block cert) ≡ deliver_act o → o ≡ Some (block, cert)
+delivery-due (Some d) block cert e =
+    let p : block ≡ d.0 = cc in
+    let q : cert ≡ d.1 = cc in
+    ap (λ (x : Block). Some (x, d.1)) (sym p) ∙ ap (λ (y : Cert). Some (block, y)) (sym q)
+delivery-due None block cert e = cc
+
+no_delivery : (o : Option (Block × Cert)) → deliver_act o ≡ None → o ≡ None
+no_delivery None e = refl
+no_delivery (Some d) e = cc
