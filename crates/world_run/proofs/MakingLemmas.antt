@@ -1,5 +1,5 @@
 -- What a call of a node adds to the step so far.
-use Rattle.std.proofs.Common.{◌≡◌, ℕ, ◌+◌, Bool, true, false, ◌&&◌, ◌||◌, ◌==◌, not, cond, List, [], ◌∷◌, ◌++◌, length, map, Option, Some, None, Result, Ok, Err, IfOk, OnOk, refl, sym, ap, ◌∙◌, ◌⊎◌, inl, inr, append_assoc, arith, string_bytes, Vec, Global}
+use Rattle.std.proofs.Common.{◌≡◌, ℕ, ◌+◌, Bool, true, false, ◌&&◌, ◌||◌, ◌==◌, not, cond, List, [], ◌∷◌, ◌++◌, length, map, Option, Some, None, Result, Ok, Err, IfOk, OnOk, OnErr, refl, sym, ap, subst, ◌∙◌, ◌⊎◌, inl, inr, append_assoc, arith, string_bytes, Vec, Global}
 use Rattle.std.specs.List.{filter, flat_map, list_any}
 use Rattle.std.proofs.lemmas.Bool.{cases_Bool, ne_eqb, eq-eqb}
 use Rattle.std.proofs.lemmas.List.{append-nil, map-append}
@@ -17,26 +17,27 @@ use Rattle.signer_edge.specs.Accepts.{Accepts}
 use Rattle.signer_edge.specs.Seals.{Seat, is_sealed, next_sig, with_seal}
 use Rattle.signer_edge.specs.Statements.{commit_text}
 use Rattle.signer_edge.specs.declared.seals.Seal.{Seal}
+use Rattle.bft_wire.specs.declared.reason.Reason.{Reason}
 use Rattle.bft_wire.specs.declared.message.Message.TheVariants as message_of
 use Rattle.node_model.specs.Letters.{Commit, Message}
 use Rattle.node_model.specs.declared.letter.Letter.{Letter}
 use Rattle.node_model.specs.declared.act.Act.{Act}
 use Rattle.node_model.specs.declared.act.Act.TheVariants as act_of
-use Rattle.node_model.specs.Acts.{View, acceptance_due, deliver_act, delivery_due, due, may_propose, preparation_due, proposed}
-use Rattle.node_model.specs.Answers.{after_act, after_due, after_propose, after_vote, at_place, due_answer, kept_after, propose_answer, vote_answer}
+use Rattle.node_model.specs.Acts.{View, accept_act, acceptance_due, deliver_act, delivery_due, due, may_propose, preparation_due, proposed}
+use Rattle.node_model.specs.Answers.{act_or, after_act, after_due, after_propose, after_vote, at_place, due_answer, kept_after, propose_answer, reason_or, vote_answer}
 use Rattle.node_model.specs.Cores.{Core, core_comes, core_ways, next_place}
-use Rattle.node_model.specs.Steps.{Event, FromMember, Keys, Making, Post, Tick, accept_round, begins, commit_message, makes_accepted, makes_delivered, makes_prepared, next, own_rule, prepare_message, prepare_round, preprepare_message, rounds, to_all, votes}
-use Rattle.world_model.specs.Pools.{has_id, settled}
+use Rattle.node_model.specs.Steps.{Event, FromMember, Keys, Making, Post, Tick, accept_round, begins, commit_message, makes_accepted, makes_delivered, makes_prepared, next, own_rule, prepare_message, prepare_round, preprepare_message, propose_round, rounds, to_all, votes}
+use Rattle.world_model.specs.Pools.{has_id, offer, settled}
 use Rattle.world_model.specs.Texts.{block_text, fact_text}
-use Rattle.world_model.specs.Worlds.{Entry, keys_of, requests_in, seals_of, sent_by}
+use Rattle.world_model.specs.Worlds.{Entry, keys_of, offer_to, requests_in, seals_of, sent_by, tick_of}
 use Rattle.world_run.specs.Entries.{entry_of}
 use Rattle.world_run.specs.Making.{Before, HasNoneToAccept, IsDelivery, IsDue, Makes, Stands, accepted_in, accepts_in, act_in, keys_before, prepared_in}
-use Rattle.world_run.specs.Nodes.{core_of}
+use Rattle.world_run.specs.Nodes.{core_of, node_of}
 use Rattle.world_run.specs.Standing.{IsAt}
 use Rattle.world_run.specs.declared.network.Entry as entries
 use Rattle.world_run.specs.declared.node.Node.{Node}
 use Rattle.world_run.specs.declared.node.Outside.{Outside}
-use Rattle.world_run.proofs.ViewLemmas.{acceptance_due-accepted, accepted-kept_after, act_in-due_answer, act_in-vote_answer, at_place-at, is_prepared-kept_after, me-after_act, me-at_place, me-kept_after, preparation_due-accepted, preparation_due-prepared}
+use Rattle.world_run.proofs.ViewLemmas.{IsAt-after_act, IsAt-at_place, IsAt-kept_after, acceptance_due-accepted, accepted-kept_after, act_in-due_answer, act_in-vote_answer, at_place-at, is_prepared-kept_after, me-after_act, me-at_place, me-kept_after, preparation_due-accepted, preparation_due-prepared}
 
 pub IfOk-with : {T E : Type 0} (r : Result T E) (P S : T → Type 0) (Q : Type 0) → ((x : T) → P x → Q → S x) → IfOk r P → OnOk r Q → IfOk r S
 IfOk-with (Ok x) P S Q f p q = f x p q
@@ -246,13 +247,150 @@ makes_delivered-done b m block cert node now old new d h =
       text = d.text ∙ ap (λ t. t ++ block_text old.number node.id block (proof_of.Bft cert)) h.text ∙ append_assoc b.text (flat_map (fact_text b.number) m.facts) (block_text old.number node.id block (proof_of.Bft cert)) ∙ ap (λ t. b.text ++ (flat_map (fact_text b.number) m.facts ++ t)) line ∙ ap (λ t. b.text ++ t) (sym (flat_map-one (fact_text b.number) m.facts fact));
     }
 
-delivery-due : (o : Option (Block × Cert)) (block : Block) (cert : Cert) → Some (act_of.Deliver block cert) ≡ deliver_act o → o ≡ Some (block, cert)
+pub delivery-due : (o : Option (Block × Cert)) (block : Block) (cert : Cert) → Some (act_of.Deliver block cert) ≡ deliver_act o → o ≡ Some (block, cert)
 delivery-due (Some d) block cert e =
     let p : block ≡ d.0 = cc in
     let q : cert ≡ d.1 = cc in
-    ap (λ (x : Block). Some (x, d.1)) (sym p) ∙ ap (λ (y : Cert). Some (block, y)) (sym q)
+    let P : Block → Option (Block × Cert) = λ x. Some (x, d.1) in
+    let Q : Cert → Option (Block × Cert) = λ y. Some (block, y) in
+    ap P (sym p) ∙ ap Q (sym q)
 delivery-due None block cert e = cc
 
-no_delivery : (o : Option (Block × Cert)) → deliver_act o ≡ None → o ≡ None
+pub no_delivery : (o : Option (Block × Cert)) → deliver_act o ≡ None → o ≡ None
 no_delivery None e = refl
 no_delivery (Some d) e = cc
+
+-- WHAT STANDS AT THE BEGINNING
+
+pub commit-made : (place : Place) (w : View) (digest : List ℕ) (v : ℕ) (sig next : Sig) → v ≡ w.view → sig ≡ next → ◌≡◌ {A = Commit} (record { config = place.config.number; view = v; number = place.height; digest = digest; sig = sig }) (commit_message place w digest next)
+commit-made place w digest v sig next e f = rw (e, f)
+
+begun : (b : Before) (s : Core) (told : Act) (node now : Node) (outside : Outside) → Stands b node outside → now.id ≡ node.id → now.place ≡ s.place → now.pool.items ≡ node.pool.items → now.view ≡ after_act told s.view → s.view.me ≡ node.id → Makes b (record { state = s; facts = []; posts = []; signed = [] }) told now outside
+begun b s told node now outside h id place pool view me = record {
+  id = id ∙ h.id;
+  place = place;
+  view = view;
+  me = me ∙ h.id;
+  pool = pool ∙ h.pool ∙ sym (settled-none b.pool);
+  network = h.network ∙ sym (append-nil b.network);
+  seat = h.seat ∙ ap (λ (l : List Seal). record { id = b.id; seals = l }) (sym (append-nil b.seals));
+  number = h.number;
+  text = h.text ∙ sym (append-nil b.text);
+}
+
+-- A PROPOSAL
+
+pub makes_proposed-sent : (b : Before) (m : Making Core) (block : Block) (node : Node) (old new : Outside) → Makes b m (act_of.Accept block) node old → Sends old new node.id (flat_map (to_all node.place.config.members node.id) (preprepare_message node.place node.view block ∷ prepare_message node.place node.view block ∷ [])) → Makes b (makes_accepted core_ways block (preprepare_message m.state.place m.state.view block ∷ []) m) act_of.Kept node new
+makes_proposed-sent b m block node old new h s =
+    let same : preprepare_message node.place node.view block ≡ preprepare_message m.state.place m.state.view block = rw (h.place, h.view) in
+    let f : Message → List Entry = λ x. map entry_of old.network.items ++ sent_by node.id (flat_map (to_all node.place.config.members node.id) (x ∷ prepare_message node.place node.view block ∷ [])) in
+    makes_accepted-sent b m block (preprepare_message m.state.place m.state.view block ∷ []) node old new h (record { network = s.network ∙ ap f same; seat = s.seat; number = s.number; text = s.text })
+
+-- the proposal at the offer that a Tick brings
+abbrev pub tick_proposal : Node → Option Block
+tick_proposal node = proposed node.place node.view (offer_to core_ways (node_of node))
+
+abbrev pub tick_begins : Before → Node → Making Core
+tick_begins b node = begins core_ways (keys_before b) (core_of node) (tick_of core_ways (node_of node))
+
+pub propose_none : (b : Before) (node now : Node) (outside : Outside) → tick_proposal node ≡ None → Stands b node outside → now.id ≡ node.id → now.place ≡ node.place → now.pool.items ≡ node.pool.items → now.view ≡ node.view → Makes b (own_rule core_ways (tick_of core_ways (node_of node)) (tick_begins b node)) act_of.Kept now outside
+propose_none b node now outside e h id place pool view =
+    subst (λ (x : Making Core). Makes b x act_of.Kept now outside) (sym (ap (λ o. propose_round core_ways o (tick_begins b node)) e)) (begun b (core_of node) act_of.Kept node now outside h id place pool view node.is_me)
+
+pub propose_some : (b : Before) (node now : Node) (old new : Outside) (block : Block) → tick_proposal node ≡ Some block → Stands b node old → now.id ≡ node.id → now.place ≡ node.place → now.pool.items ≡ node.pool.items → now.view ≡ after_act (act_of.Accept block) node.view → Sends old new now.id (flat_map (to_all now.place.config.members now.id) (preprepare_message now.place now.view block ∷ prepare_message now.place now.view block ∷ [])) → Makes b (own_rule core_ways (tick_of core_ways (node_of node)) (tick_begins b node)) act_of.Kept now new
+propose_some b node now old new block e h id place pool view s =
+    subst (λ (x : Making Core). Makes b x act_of.Kept now new) (sym (ap (λ o. propose_round core_ways o (tick_begins b node)) e)) (makes_proposed-sent b (tick_begins b node) block now old new (begun b (core_of node) (act_of.Accept block) node now old h id place pool view node.is_me) s)
+
+pub no_proposal : (node : Node) → false ≡ may_propose node.place node.view → tick_proposal node ≡ None
+no_proposal node e =
+    let f : may_propose node.place node.view ≡ false = sym e in
+    rw f
+
+nothing_told : (o : Option Block) (f : Option Reason) (l : Reason) (block : Block) → act_or (accept_act o) (reason_or f l) ≡ act_of.Accept block → o ≡ Some block
+nothing_told (Some x) f l block e = cc
+nothing_told None (Some r) l block e = cc
+nothing_told None None l block e = cc
+
+nothing_left : (o : Option Block) (f : Option Reason) (l : Reason) (w : View) → ((x : Block) → act_or (accept_act o) (reason_or f l) ≡ act_of.Accept x → ⊥) → (o ≡ None) × (after_act (act_or (accept_act o) (reason_or f l)) w ≡ w)
+nothing_left (Some x) f l w h = absurd (h x refl)
+nothing_left None (Some r) l w h = (refl, refl)
+nothing_left None None l w h = (refl, refl)
+
+module _ (node : Node) (offered : List Request) (act : Act) (left : View) (may : may_propose node.place node.view ≡ true) (offer : offered ≡ offer node.pool.items) (answer : act ≡ propose_answer node.place (at_place node.place node.view) offered) (after : left ≡ after_propose node.place node.view offered) where
+  offer-same : offered ≡ offer_to core_ways (node_of node)
+  offer-same = offer ∙ rw may
+
+  answer-same : act ≡ propose_answer node.place node.view (offer_to core_ways (node_of node))
+  answer-same = answer ∙ ap (λ w. propose_answer node.place w offered) (at_place-at node.place node.view node.is_at) ∙ ap (λ rs. propose_answer node.place node.view rs) offer-same
+
+  left-same : left ≡ after_act act node.view
+  left-same = after ∙ ap (λ a. after_act a (at_place node.place node.view)) (sym answer) ∙ ap (λ w. after_act act w) (at_place-at node.place node.view node.is_at)
+
+  pub proposal_told : (block : Block) → act ≡ act_of.Accept block → (tick_proposal node ≡ Some block) × (left ≡ after_act (act_of.Accept block) node.view)
+  proposal_told block e = (nothing_told (tick_proposal node) _ _ block (sym answer-same ∙ e), left-same ∙ ap (λ a. after_act a node.view) e)
+
+  pub proposal_not_told : ((x : Block) → act ≡ act_of.Accept x → ⊥) → (tick_proposal node ≡ None) × (left ≡ node.view)
+  proposal_not_told h =
+      let e = nothing_left (tick_proposal node) _ _ node.view (λ x f. h x (answer-same ∙ f)) in
+      (e.0, left-same ∙ ap (λ a. after_act a node.view) answer-same ∙ e.1)
+
+-- A MESSAGE
+
+module _ (b : Before) (node : Node) (outside : Outside) (letter : Letter) (h : Stands b node outside) where
+  abbrev letter_begins : Making Core
+  letter_begins = begins core_ways (keys_before b) (core_of node) (FromMember letter)
+
+  -- the node itself is named
+  own_same : letter.from ≡ node.id → core_comes (FromMember letter) ((keys_before b).accepts []) (core_of node) ≡ core_of node
+  own_same e =
+      let t : (letter.from == node.view.me) ≡ true = eq-eqb letter.from node.view.me (e ∙ sym node.is_me) in
+      rw t
+
+  pub Makes-own : letter.from ≡ node.id → Makes b letter_begins act_of.Kept node outside
+  Makes-own e =
+      let P : Core → Type 0 = λ s. Makes b (record { state = s; facts = []; posts = []; signed = [] }) act_of.Kept node outside in
+      subst P (sym (own_same e)) (begun b (core_of node) act_of.Kept node node outside h refl refl refl refl node.is_me)
+
+  other_core : Core
+  other_core = record { place = node.place; view = kept_after (is_sealed outside.seat.seals) node.place node.view letter }
+
+  other_same : (letter.from ≡ node.id → ⊥) → core_comes (FromMember letter) ((keys_before b).accepts []) (core_of node) ≡ other_core
+  unfolding other_core
+  other_same e =
+      let t : (letter.from == node.view.me) ≡ false = ne_eqb letter.from node.view.me (λ f. e (f ∙ node.is_me)) in
+      let seals : b.seals ++ [] ≡ outside.seat.seals = append-nil b.seals ∙ sym (ap (λ (s : Seat). s.seals) h.seat) in
+      rw t (ap (λ (l : List Seal). record { place = node.place; view = kept_after (is_sealed l) node.place node.view letter }) seals)
+
+  pub Makes-other : (told : Act) (now : Node) → (letter.from ≡ node.id → ⊥) → now.id ≡ node.id → now.place ≡ node.place → now.pool.items ≡ node.pool.items → now.view ≡ after_act told (kept_after (is_sealed outside.seat.seals) node.place node.view letter) → Makes b letter_begins told now outside
+  unfolding other_core
+  Makes-other told now e id place pool view =
+      let P : Core → Type 0 = λ s. Makes b (record { state = s; facts = []; posts = []; signed = [] }) told now outside in
+      subst P (sym (other_same e)) (begun b other_core told node now outside h id place pool view (me-kept_after (is_sealed outside.seat.seals) node.place node.view letter ∙ node.is_me))
+
+  pub IsDue-other : (told : Act) → (letter.from ≡ node.id → ⊥) → act_in told ≡ due (is_sealed outside.seat.seals) node.place (kept_after (is_sealed outside.seat.seals) node.place node.view letter) → IsDue b letter_begins told
+  unfolding other_core
+  IsDue-other told e d =
+      let P : Core → Type 0 = λ s. IsDue b (record { state = s; facts = []; posts = []; signed = [] }) told in
+      let seals : outside.seat.seals ≡ b.seals ++ [] = ap (λ (s : Seat). s.seals) h.seat ∙ sym (append-nil b.seals) in
+      let f : List Seal → Option Act = λ l. due (is_sealed l) node.place (kept_after (is_sealed outside.seat.seals) node.place node.view letter) in
+      subst P (sym (other_same e)) (d ∙ ap f seals)
+
+  pub Makes-vote : (told : Act) (now : Node) → (letter.from ≡ node.id → ⊥) → now.id ≡ node.id → now.place ≡ node.place → now.pool.items ≡ node.pool.items → Votes (is_sealed outside.seat.seals) node.place node.view letter told now.view → Makes b letter_begins told now outside
+  Makes-vote told now e id place pool v =
+      let accepts = is_sealed outside.seat.seals in
+      Makes-other told now e id place pool (v.after ∙ ap (λ a. after_act a (kept_after accepts node.place (at_place node.place node.view) letter)) (sym v.answer) ∙ ap (λ w. after_act told (kept_after accepts node.place w letter)) (at_place-at node.place node.view node.is_at))
+
+  pub IsDue-vote : (told : Act) (left : View) → (letter.from ≡ node.id → ⊥) → Votes (is_sealed outside.seat.seals) node.place node.view letter told left → IsDue b letter_begins told
+  IsDue-vote told left e v =
+      let accepts = is_sealed outside.seat.seals in
+      IsDue-other told e (ap act_in v.answer ∙ act_in-vote_answer accepts node.place (at_place node.place node.view) letter ∙ ap (λ w. due accepts node.place (kept_after accepts node.place w letter)) (at_place-at node.place node.view node.is_at))
+
+-- where a vote leaves the view
+pub vote-at : {E : Type 0} (r : Result Act E) (accepts : Accepts) (place : Place) (w left : View) (letter : Letter) → OnOk r (left ≡ after_vote accepts place w letter) → OnErr r (left ≡ at_place place w) → IsAt place left × (left.me ≡ w.me)
+vote-at (Ok told) accepts place w left letter e f =
+    let answer = vote_answer accepts place (at_place place w) letter in
+    let kept = kept_after accepts place (at_place place w) letter in
+    (subst (λ v. IsAt place v) (sym e) (IsAt-after_act place answer kept (IsAt-kept_after accepts place (at_place place w) letter (IsAt-at_place place w))),
+     ap (λ (v : View). v.me) e ∙ me-after_act answer kept ∙ me-kept_after accepts place (at_place place w) letter ∙ me-at_place place w)
+vote-at (Err fault) accepts place w left letter e f =
+    (subst (λ v. IsAt place v) (sym f) (IsAt-at_place place w), ap (λ (v : View). v.me) f ∙ me-at_place place w)
