@@ -23,7 +23,7 @@ use Rattle.node_model.specs.Letters.{Commit, Message}
 use Rattle.node_model.specs.declared.letter.Letter.{Letter}
 use Rattle.node_model.specs.declared.act.Act.{Act}
 use Rattle.node_model.specs.declared.act.Act.TheVariants as act_of
-use Rattle.node_model.specs.Acts.{View, accept_act, acceptance_due, deliver_act, delivery_due, due, may_propose, preparation_due, proposed}
+use Rattle.node_model.specs.Acts.{View, accept_act, acceptance_due, carried_cert, deliver_act, delivery_due, due, may_propose, preparation_due, proposed}
 use Rattle.node_model.specs.Answers.{act_or, after_act, after_due, after_propose, after_vote, at_place, due_answer, kept_after, propose_answer, reason_or, vote_answer}
 use Rattle.node_model.specs.Cores.{Core, core_comes, core_ways, next_place}
 use Rattle.node_model.specs.Steps.{Event, FromMember, Keys, Making, Post, Tick, accept_round, begins, commit_message, makes_accepted, makes_delivered, makes_prepared, next, own_rule, prepare_message, prepare_round, preprepare_message, propose_round, rounds, to_all, votes}
@@ -394,3 +394,18 @@ vote-at (Ok told) accepts place w left letter e f =
      ap (λ (v : View). v.me) e ∙ me-after_act answer kept ∙ me-kept_after accepts place (at_place place w) letter ∙ me-at_place place w)
 vote-at (Err fault) accepts place w left letter e f =
     (subst (λ v. IsAt place v) (sym f) (IsAt-at_place place w), ap (λ (v : View). v.me) f ∙ me-at_place place w)
+
+-- TWO MESSAGES, one after the other
+
+pub preprepare-made : (place : Place) (w : View) (block : Block) (v : ℕ) (cert : Option Cert) → v ≡ w.view → cert ≡ carried_cert place → ◌≡◌ {A = Message} (message_of.PrePrepare (record { config = place.config.number; view = v; number = place.height; block = block; cert = cert })) (preprepare_message place w block)
+preprepare-made place w block v cert e f = rw (e, f)
+
+pub prepare-made : (place : Place) (w : View) (block : Block) (v : ℕ) (digest : List ℕ) → v ≡ w.view → digest ≡ block_hash block → ◌≡◌ {A = Message} (message_of.Prepare (record { config = place.config.number; view = v; number = place.height; digest = digest })) (prepare_message place w block)
+prepare-made place w block v digest e f = rw (e, f)
+
+pub sent_two : (id : ℕ) (members : List ℕ) (x y p q : Message) (old mid new : List Entry) → x ≡ p → y ≡ q → mid ≡ old ++ sent_by id (to_all members id x) → new ≡ mid ++ sent_by id (to_all members id y) → new ≡ old ++ sent_by id (flat_map (to_all members id) (p ∷ q ∷ []))
+sent_two id members x y p q old mid new e f g h =
+    let first : Message → List Entry = λ z. old ++ sent_by id (to_all members id z) in
+    let second : Message → List Entry = λ z. sent_by id (to_all members id z) in
+    let more : List Post → List Entry = λ posts. old ++ sent_by id (to_all members id p ++ posts) in
+    sent_more old id (to_all members id p) (to_all members id q) mid new (g ∙ ap first e) (h ∙ ap (λ l. mid ++ l) (ap second f)) ∙ ap more (sym (append-nil (to_all members id q)))
