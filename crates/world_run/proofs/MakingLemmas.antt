@@ -337,7 +337,7 @@ module _ (node : Node) (offered : List Request) (act : Act) (left : View) (may :
 -- A MESSAGE
 
 module _ (b : Before) (node : Node) (outside : Outside) (letter : Letter) (h : Stands b node outside) where
-  abbrev letter_begins : Making Core
+  abbrev pub letter_begins : Making Core
   letter_begins = begins core_ways (keys_before b) (core_of node) (FromMember letter)
 
   -- the node itself is named
@@ -384,6 +384,12 @@ module _ (b : Before) (node : Node) (outside : Outside) (letter : Letter) (h : S
   IsDue-vote told left e v =
       let accepts = is_sealed outside.seat.seals in
       IsDue-other told e (ap act_in v.answer ∙ act_in-vote_answer accepts node.place (at_place node.place node.view) letter ∙ ap (λ w. due accepts node.place (kept_after accepts node.place w letter)) (at_place-at node.place node.view node.is_at))
+
+pub same_letter : (from : ℕ) (x y : Message) → x ≡ y → ◌≡◌ {A = Letter} (record { from = from; message = x }) (record { from = from; message = y })
+same_letter from x y e = ap (λ m. record { from = from; message = m }) e
+
+pub Votes-same : (accepts : Accepts) (place : Place) (before : View) (x y : Letter) (told : Act) (left : View) → x ≡ y → Votes accepts place before x told left → Votes accepts place before y told left
+Votes-same accepts place before x y told left e v = subst (λ l. Votes accepts place before l told left) e v
 
 -- where a vote leaves the view
 pub vote-at : {E : Type 0} (r : Result Act E) (accepts : Accepts) (place : Place) (w left : View) (letter : Letter) → OnOk r (left ≡ after_vote accepts place w letter) → OnErr r (left ≡ at_place place w) → IsAt place left × (left.me ≡ w.me)

@@ -334,7 +334,7 @@ impl Node {
     {
         match self.view.on_prepare(&self.place, from, message) {
             Act::Prepare(digest) => Ok(Act::Prepare(digest)),
-            _ => self.view.due(&self.place, &outside.seat),
+            _ => self.told(outside),
         }
     }
 
