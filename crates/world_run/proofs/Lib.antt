@@ -3,8 +3,11 @@ pub mod FlushLemmas
 pub mod GenesisLemmas
 pub mod GoingLemmas
 pub mod ListLemmas
+pub mod MakingLemmas
 pub mod RangeLemmas
+pub mod RoundLemmas
 pub mod RunnerLemmas
 pub mod StepLemmas
 pub mod SubmitLemmas
 pub mod TickLemmas
+pub mod ViewLemmas

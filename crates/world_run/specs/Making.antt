@@ -7,10 +7,10 @@ use Rattle.signer_edge.specs.Seals.{is_sealed}
 use Rattle.signer_edge.specs.Accepts.{Accepts}
 use Rattle.node_model.specs.declared.act.Act.{Act}
 use Rattle.node_model.specs.declared.act.Act.TheVariants as act_of
-use Rattle.node_model.specs.Acts.{due, deliver_act, delivery_due}
+use Rattle.node_model.specs.Acts.{acceptance_due, preparation_due, due, deliver_act, delivery_due}
 use Rattle.node_model.specs.Answers.{after_act}
-use Rattle.node_model.specs.Cores.{Core}
-use Rattle.node_model.specs.Steps.{Keys, Making}
+use Rattle.node_model.specs.Cores.{Core, core_ways}
+use Rattle.node_model.specs.Steps.{Keys, Making, accept_round, prepare_round}
 use Rattle.world_model.specs.Pools.{settled}
 use Rattle.world_model.specs.Texts.{fact_text}
 use Rattle.world_model.specs.Worlds.{Entry, keys_of, requests_in, seals_of, sent_by}
@@ -66,6 +66,18 @@ act_in (act_of.Nothing r) = None
 -- the told act is the one that is due
 abbrev pub IsDue : Before → Making Core → Act → Type 0
 IsDue b m told = act_in told ≡ due (accepts_in b m) m.state.place m.state.view
+
+-- nothing is to be accepted
+abbrev pub HasNoneToAccept : Before → Making Core → Type 0
+HasNoneToAccept b m = acceptance_due (accepts_in b m) m.state.place m.state.view ≡ None
+
+-- with what is to be accepted
+abbrev pub accepted_in : Before → Making Core → Making Core
+accepted_in b m = accept_round core_ways (acceptance_due (accepts_in b m) m.state.place m.state.view) m
+
+-- with what is to be prepared
+abbrev pub prepared_in : Before → Making Core → Making Core
+prepared_in b m = prepare_round core_ways (keys_before b) (preparation_due m.state.place m.state.view) m
 
 -- no vote is due, so the told act is the delivery that is due, if one is
 abbrev pub IsDelivery : Making Core → Act → Type 0

@@ -111,7 +111,17 @@ fn signed(seat: &mut SealSeat, statement: &[u8]) -> Result<Sig, NoMemory>
 
 impl Node {
     ghost use Rattle.world_run.specs.Entries.{entry_of};
-    ghost use Rattle.world_run.specs.Making.{Before, IsDelivery, IsDue, Makes, Stands, keys_before};
+    ghost use Rattle.world_run.specs.Making.{
+      Before,
+      HasNoneToAccept,
+      IsDelivery,
+      IsDue,
+      Makes,
+      Stands,
+      accepted_in,
+      keys_before,
+      prepared_in,
+    };
     ghost use Rattle.world_run.specs.Nodes.{core_of, node_of};
 
     /// A node on the first block of a configuration.
@@ -189,9 +199,26 @@ impl Node {
         self.send(Message::Prepare(prepare), outside)
     }
 
+    /// The act that is due now.
+    fn told(&mut self, outside: &Outside) -> Result<Act, NoMemory>
+        ensures makes { IfOk result (λ told. (b : Before) (m : Making Core) → Makes b m act_of.Kept self.old outside.now → Makes b m told self.new outside.now) }
+        ensures due { IfOk result (λ told. (b : Before) (m : Making Core) → Makes b m act_of.Kept self.old outside.now → IsDue b m told) }
+    {
+        self.view.due(&self.place, &outside.seat)
+    }
+
+    /// What follows an acceptance: a Prepare to all. The answer is the next act that is due.
+    fn accept(&mut self, block: &Block, outside: &mut Outside) -> Result<Act, NoMemory>
+        ensures makes { IfOk result (λ told. (b : Before) (m : Making Core) → Makes b m (act_of.Accept block.now) self.old outside.old → Makes b (makes_accepted core_ways block.now [] m) told self.new outside.new) }
+        ensures due { IfOk result (λ told. (b : Before) (m : Making Core) → Makes b m (act_of.Accept block.now) self.old outside.old → IsDue b (makes_accepted core_ways block.now [] m) told) }
+    {
+        self.send_prepare(block, outside)?;
+        self.told(outside)
+    }
+
     /// What follows a preparation: the signature, a Commit to all, and the own one. The answer is the next
     /// act that is due.
-    fn commit(&mut self, digest: Digest, outside: &mut Outside) -> Result<Act, NoMemory>
+    fn prepare(&mut self, digest: Digest, outside: &mut Outside) -> Result<Act, NoMemory>
         ensures makes { IfOk result (λ told. (b : Before) (m : Making Core) → Makes b m (act_of.Prepare digest) self.old outside.old → Makes b (makes_prepared core_ways (keys_before b) digest m) told self.new outside.new) }
         ensures due { IfOk result (λ told. (b : Before) (m : Making Core) → Makes b m (act_of.Prepare digest) self.old outside.old → IsDue b (makes_prepared core_ways (keys_before b) digest m) told) }
     {
@@ -229,20 +256,36 @@ impl Node {
         Ok(())
     }
 
+    /// Accepts what is due, from a told act on. The answer is the act that is due then.
+    fn acceptance(&mut self, told: Act, outside: &mut Outside) -> Result<Act, NoMemory>
+        ensures makes { IfOk result (λ next. (b : Before) (m : Making Core) → Makes b m told self.old outside.old → IsDue b m told → Makes b (accepted_in b m) next self.new outside.new) }
+        ensures due { IfOk result (λ next. (b : Before) (m : Making Core) → Makes b m told self.old outside.old → IsDue b m told → IsDue b (accepted_in b m) next) }
+    {
+        match told {
+            Act::Accept(block) => self.accept(&block, outside),
+            told => Ok(told),
+        }
+    }
+
+    /// Prepares what is due, from a told act on, where nothing is to be accepted. The answer is the act
+    /// that is due then.
+    fn preparation(&mut self, told: Act, outside: &mut Outside) -> Result<Act, NoMemory>
+        ensures makes { IfOk result (λ next. (b : Before) (m : Making Core) → Makes b m told self.old outside.old → IsDue b m told → HasNoneToAccept b m → Makes b (prepared_in b m) next self.new outside.new) }
+        ensures due { IfOk result (λ next. (b : Before) (m : Making Core) → Makes b m told self.old outside.old → IsDue b m told → HasNoneToAccept b m → IsDelivery (prepared_in b m) next) }
+    {
+        match told {
+            Act::Prepare(digest) => self.prepare(digest, outside),
+            told => Ok(told),
+        }
+    }
+
     /// Accepts and prepares what is due, from a told act on. The answer is the act that is due then.
     fn votes(&mut self, told: Act, outside: &mut Outside) -> Result<Act, NoMemory>
         ensures makes { IfOk result (λ next. (b : Before) (m : Making Core) → Makes b m told self.old outside.old → IsDue b m told → Makes b (votes core_ways (keys_before b) m) next self.new outside.new) }
         ensures due { IfOk result (λ next. (b : Before) (m : Making Core) → Makes b m told self.old outside.old → IsDue b m told → IsDelivery (votes core_ways (keys_before b) m) next) }
     {
-        let mut act = told;
-        if let Act::Accept(block) = act {
-            self.send_prepare(&block, outside)?;
-            act = self.view.due(&self.place, &outside.seat)?;
-        }
-        if let Act::Prepare(digest) = act {
-            act = self.commit(digest, outside)?;
-        }
-        Ok(act)
+        let told = self.acceptance(told, outside)?;
+        self.preparation(told, outside)
     }
 
     /// Does all that is due from a told act on: votes, a delivery, and the same at the next number.
@@ -253,36 +296,66 @@ impl Node {
             return Ok(());
         };
         self.deliver(block, cert, outside)?;
-        let told = self.view.due(&self.place, &outside.seat)?;
+        let told = self.told(outside)?;
         let Act::Deliver(block, cert) = self.votes(told, outside)? else {
             return Ok(());
         };
         self.deliver(block, cert, outside)
     }
 
+    /// The leader proposes what its pool offers.
+    fn propose(&mut self, outside: &mut Outside) -> Result<(), NoMemory>
+        ensures { OnOk result ((b : Before) → Stands b self.old outside.old → Makes b (own_rule core_ways (tick_of core_ways (node_of self.old)) (begins core_ways (keys_before b) (core_of self.old) (tick_of core_ways (node_of self.old)))) act_of.Kept self.new outside.new) }
+    {
+        if !self.view.may_propose(&self.place) {
+            return Ok(());
+        }
+        let offer = offer(outside.alloc, self.pool.as_slice())?;
+        match self.view.propose(&self.place, offer, &outside.seat)? {
+            Act::Accept(block) => self.send_proposal(block, outside),
+            _ => Ok(()),
+        }
+    }
+
     /// A tick: the leader proposes what its pool offers.
     pub(crate) fn tick(&mut self, outside: &mut Outside) -> Result<(), NoMemory>
         ensures { OnOk result ((b : Before) → Stands b self.old outside.old → Makes b (next core_ways (keys_before b) (core_of self.old) (tick_of core_ways (node_of self.old))) act_of.Kept self.new outside.new) }
     {
-        if self.view.may_propose(&self.place) {
-            let offer = offer(outside.alloc, self.pool.as_slice())?;
-            if let Act::Accept(block) = self.view.propose(&self.place, offer, &outside.seat)? {
-                self.send_proposal(block, outside)?;
-            }
-        }
-        let told = self.view.due(&self.place, &outside.seat)?;
+        self.propose(outside)?;
+        let told = self.told(outside)?;
         self.rounds(told, outside)
     }
 
     /// What a Prepare brings: the act that is due with it.
-    fn prepared(&mut self, from: u32, message: &Prepare, outside: &Outside) -> Result<Act, NoMemory>
+    fn on_prepare(&mut self, from: u32, message: &Prepare, outside: &Outside) -> Result<Act, NoMemory>
         requires { from ≢ self.old.id }
         ensures makes { IfOk result (λ told. (b : Before) → Stands b self.old outside.now → Makes b (begins core_ways (keys_before b) (core_of self.old) (FromMember (record { from = from; message = message_of.Prepare message.now }))) told self.new outside.now) }
         ensures due { IfOk result (λ told. (b : Before) → Stands b self.old outside.now → IsDue b (begins core_ways (keys_before b) (core_of self.old) (FromMember (record { from = from; message = message_of.Prepare message.now }))) told) }
     {
         match self.view.on_prepare(&self.place, from, message) {
             Act::Prepare(digest) => Ok(Act::Prepare(digest)),
-            _ => self.view.due(&self.place, &outside.seat),
+            _ => self.told(outside),
+        }
+    }
+
+    /// What a message of another member brings: the act that is due with it.
+    fn comes(&mut self, from: u32, message: &Message, outside: &Outside) -> Result<Act, NoMemory>
+        ensures makes { IfOk result (λ told. (b : Before) → Stands b self.old outside.now → Makes b (begins core_ways (keys_before b) (core_of self.old) (FromMember (record { from = from; message = message.now }))) told self.new outside.now) }
+        ensures due { IfOk result (λ told. (b : Before) → Stands b self.old outside.now → IsDue b (begins core_ways (keys_before b) (core_of self.old) (FromMember (record { from = from; message = message.now }))) told) }
+    {
+        if from == self.id {
+            return self.told(outside);
+        }
+        match message {
+            Message::PrePrepare(message) => {
+                self.view
+                    .on_preprepare(&self.place, from, message.copy()?, &outside.seat)
+            }
+            Message::Prepare(message) => self.on_prepare(from, message, outside),
+            Message::Commit(message) => {
+                self.view
+                    .on_commit(&self.place, from, message.copy()?, &outside.seat)
+            }
         }
     }
 
@@ -295,21 +368,7 @@ impl Node {
     ) -> Result<(), NoMemory>
         ensures { OnOk result ((b : Before) → Stands b self.old outside.old → Makes b (next core_ways (keys_before b) (core_of self.old) (FromMember (record { from = from; message = message.now }))) act_of.Kept self.new outside.new) }
     {
-        if from == self.id {
-            let told = self.view.due(&self.place, &outside.seat)?;
-            return self.rounds(told, outside);
-        }
-        let told = match message {
-            Message::PrePrepare(message) => {
-                self.view
-                    .on_preprepare(&self.place, from, message.copy()?, &outside.seat)?
-            }
-            Message::Prepare(message) => self.prepared(from, message, outside)?,
-            Message::Commit(message) => {
-                self.view
-                    .on_commit(&self.place, from, message.copy()?, &outside.seat)?
-            }
-        };
+        let told = self.comes(from, message, outside)?;
         self.rounds(told, outside)
     }
 }

@@ -1,0 +1,169 @@
+-- What the calls on a view answer and leave, where the view is at the place.
+use Rattle.std.proofs.Common.{◌≡◌, ℕ, ◌+◌, Bool, true, false, ◌&&◌, ◌==◌, not, cond, List, [], ◌∷◌, Option, Some, None, refl, sym, ap, ◌∙◌, ◌⊎◌, inl, inr, is_none}
+use Rattle.std.specs.Str.{bytes_eq}
+use Rattle.std.proofs.lemmas.Bool.{cases_Bool, and_parts, and_from, and_left, and_right, eqb-true, eq-eqb}
+use Rattle.std.proofs.lemmas.Slice.Eq.{bytes_eq-Decides}
+use Rattle.ord_types.specs.declared.values.Place.{Place}
+use Rattle.ord_types.specs.declared.values.Cert.{Cert}
+use Rattle.safety_model.specs.Blocks.{Block}
+use Rattle.signer_edge.specs.Accepts.{Accepts}
+use Rattle.bft_wire.specs.declared.reason.Reason.{Reason}
+use Rattle.node_model.specs.declared.letter.Letter.{Letter}
+use Rattle.node_model.specs.declared.act.Act.{Act}
+use Rattle.node_model.specs.declared.act.Act.TheVariants as act_of
+use Rattle.node_model.specs.Acts.{View, accept_act, acceptance_due, block_if, deliver_act, delivery_due, digest_if, due, first_of, is_inside_view, is_voting, kept_proposal, preparation_due, prepare_act}
+use Rattle.node_model.specs.Answers.{act_or, after_act, at_place, due_answer, fresh, is_new, is_same_config, keep, kept_after, kept_or, raised, reason_or, vote_answer}
+use Rattle.world_run.specs.Making.{act_in}
+use Rattle.world_run.specs.Standing.{IsAt}
+
+-- AT THE PLACE
+
+pub IsAt-at_place : (place : Place) (w : View) → IsAt place (at_place place w)
+IsAt-at_place place w =
+    elim (cases_Bool (is_same_config place w)) [
+      inr e ↦ rw e (record { config = refl; members = refl; height = refl })
+    | inl e ↦
+        let both = and_parts _ _ e in
+        let config = eqb-true w.config place.config.number both.0 in
+        let members = (bytes_eq-Decides w.members place.config.members).0 both.1 in
+        elim (cases_Bool (w.height == place.height)) [
+          inl h ↦ rw (e, h) (record { config = config; members = members; height = eqb-true _ _ h })
+        | inr h ↦ rw (e, h) (record { config = config; members = members; height = refl })
+        ]
+    ]
+
+-- who is at the place stays as it is
+pub at_place-at : (place : Place) (w : View) → IsAt place w → at_place place w ≡ w
+at_place-at place w h =
+    let same : is_same_config place w ≡ true = and_from _ _ (eq-eqb _ _ h.config) ((bytes_eq-Decides w.members place.config.members).1 h.members) in
+    let height : (w.height == place.height) ≡ true = eq-eqb _ _ h.height in
+    rw (same, height)
+
+pub me-at_place : (place : Place) (w : View) → (at_place place w).me ≡ w.me
+me-at_place place w =
+    elim (cases_Bool (is_same_config place w)) [
+      inr e ↦ rw e
+    | inl e ↦ elim (cases_Bool (w.height == place.height)) [ inl h ↦ rw (e, h) | inr h ↦ rw (e, h) ]
+    ]
+
+pub IsAt-after_act : (place : Place) (act : Act) (w : View) → IsAt place w → IsAt place (after_act act w)
+IsAt-after_act place (act_of.Accept b) w h = record { config = h.config; members = h.members; height = h.height }
+IsAt-after_act place (act_of.Prepare d) w h = record { config = h.config; members = h.members; height = h.height }
+IsAt-after_act place (act_of.Deliver b cert) w h = h
+IsAt-after_act place act_of.Kept w h = h
+IsAt-after_act place (act_of.Nothing r) w h = h
+
+pub me-after_act : (act : Act) (w : View) → (after_act act w).me ≡ w.me
+me-after_act (act_of.Accept b) w = refl
+me-after_act (act_of.Prepare d) w = refl
+me-after_act (act_of.Deliver b cert) w = refl
+me-after_act act_of.Kept w = refl
+me-after_act (act_of.Nothing r) w = refl
+
+pub IsAt-kept_after : (accepts : Accepts) (place : Place) (w : View) (letter : Letter) → IsAt place w → IsAt place (kept_after accepts place w letter)
+IsAt-kept_after accepts place w letter h =
+    elim (cases_Bool (is_new accepts place w letter)) [
+      inl e ↦ rw e (record { config = h.config; members = h.members; height = h.height })
+    | inr e ↦ rw e h
+    ]
+
+pub me-kept_after : (accepts : Accepts) (place : Place) (w : View) (letter : Letter) → (kept_after accepts place w letter).me ≡ w.me
+me-kept_after accepts place w letter =
+    elim (cases_Bool (is_new accepts place w letter)) [ inl e ↦ rw e | inr e ↦ rw e ]
+
+-- WHAT IS TOLD IS WHAT IS DUE
+
+act_in-first : (a : Option Block) (p : Option (List ℕ)) (d : Option (Block × Cert)) (other : Act) → act_in other ≡ None → act_in (act_or (first_of (accept_act a) (first_of (prepare_act p) (deliver_act d))) other) ≡ first_of (accept_act a) (first_of (prepare_act p) (deliver_act d))
+act_in-first (Some b) p d other e = refl
+act_in-first None (Some h) d other e = refl
+act_in-first None None (Some c) other e = refl
+act_in-first None None None other e = e
+
+pub act_in-due : (accepts : Accepts) (place : Place) (w : View) (other : Act) → act_in other ≡ None → act_in (act_or (due accepts place w) other) ≡ due accepts place w
+act_in-due accepts place w other e = act_in-first (acceptance_due accepts place w) (preparation_due place w) (delivery_due place w) other e
+
+act_in-reason_or : (o : Option Reason) (last : Reason) → act_in (reason_or o last) ≡ None
+act_in-reason_or None last = refl
+act_in-reason_or (Some r) last = refl
+
+act_in-kept_or : (b : Bool) (o : Option Reason) (last : Reason) → act_in (kept_or b o last) ≡ None
+act_in-kept_or true o last = refl
+act_in-kept_or false o last = act_in-reason_or o last
+
+pub act_in-due_answer : (accepts : Accepts) (place : Place) (w : View) → act_in (due_answer accepts place w) ≡ due accepts place w
+act_in-due_answer accepts place w = act_in-due accepts place w _ (act_in-reason_or _ _)
+
+pub act_in-vote_answer : (accepts : Accepts) (place : Place) (w : View) (letter : Letter) → act_in (vote_answer accepts place w letter) ≡ due accepts place (kept_after accepts place w letter)
+act_in-vote_answer accepts place w letter = act_in-due accepts place (kept_after accepts place w letter) _ (act_in-kept_or _ _ _)
+
+-- WHAT IS DUE, BY WHAT IS TOLD
+
+first_accept : (a : Option Block) (p : Option (List ℕ)) (d : Option (Block × Cert)) (b : Block) → Some (act_of.Accept b) ≡ first_of (accept_act a) (first_of (prepare_act p) (deliver_act d)) → a ≡ Some b
+first_accept (Some c) p d b e = cc
+first_accept None (Some h) d b e = cc
+first_accept None None (Some c) b e = cc
+first_accept None None None b e = cc
+
+pub acceptance_due-told : (accepts : Accepts) (place : Place) (w : View) (b : Block) → act_in (act_of.Accept b) ≡ due accepts place w → acceptance_due accepts place w ≡ Some b
+acceptance_due-told accepts place w b e = first_accept (acceptance_due accepts place w) (preparation_due place w) (delivery_due place w) b e
+
+first_prepare : (a : Option Block) (p : Option (List ℕ)) (d : Option (Block × Cert)) (h : List ℕ) → Some (act_of.Prepare h) ≡ first_of (accept_act a) (first_of (prepare_act p) (deliver_act d)) → (a ≡ None) × (p ≡ Some h)
+first_prepare (Some c) p d h e = cc
+first_prepare None (Some g) d h e = (refl, cc)
+first_prepare None None (Some c) h e = cc
+first_prepare None None None h e = cc
+
+pub preparation_due-told : (accepts : Accepts) (place : Place) (w : View) (d : List ℕ) → act_in (act_of.Prepare d) ≡ due accepts place w → (acceptance_due accepts place w ≡ None) × (preparation_due place w ≡ Some d)
+preparation_due-told accepts place w d e = first_prepare (acceptance_due accepts place w) (preparation_due place w) (delivery_due place w) d e
+
+-- neither an acceptance nor a preparation
+pub record IsNoVote (act : Act) : Type 0 where
+  pub accepts : (b : Block) → act_in act ≡ Some (act_of.Accept b) → ⊥
+  pub prepares : (d : List ℕ) → act_in act ≡ Some (act_of.Prepare d) → ⊥
+
+first_delivery : (act : Act) (a : Option Block) (p : Option (List ℕ)) (d : Option (Block × Cert)) → IsNoVote act → act_in act ≡ first_of (accept_act a) (first_of (prepare_act p) (deliver_act d)) → (a ≡ None) × (p ≡ None) × (act_in act ≡ deliver_act d)
+first_delivery act (Some c) p d h e = absurd (h.accepts c e)
+first_delivery act None (Some g) d h e = absurd (h.prepares g e)
+first_delivery act None None d h e = (refl, refl, e)
+
+pub no_vote-due : (accepts : Accepts) (place : Place) (w : View) (act : Act) → IsNoVote act → act_in act ≡ due accepts place w → (acceptance_due accepts place w ≡ None) × (preparation_due place w ≡ None) × (act_in act ≡ deliver_act (delivery_due place w))
+no_vote-due accepts place w act h e = first_delivery act (acceptance_due accepts place w) (preparation_due place w) (delivery_due place w) h e
+
+-- AFTER AN ACCEPTANCE nothing is to be accepted, after a preparation no vote is due
+
+acceptance_if : (accepts : Accepts) (place : Place) (w : View) → is_none w.accepted ≡ false → acceptance_due accepts place w ≡ None
+acceptance_if accepts place w e = rw (and_right (is_voting place w && is_inside_view w) (is_none w.accepted) e)
+
+none-accepted : (o : Option Block) (b : Block) → o ≡ Some b → is_none o ≡ false
+none-accepted (Some c) b e = refl
+none-accepted None b e = cc
+
+-- what has been accepted
+pub acceptance_due-accepted : (accepts : Accepts) (place : Place) (w : View) (b : Block) → w.accepted ≡ Some b → acceptance_due accepts place w ≡ None
+acceptance_due-accepted accepts place w b e = acceptance_if accepts place w (none-accepted w.accepted b e)
+
+pub preparation_due-prepared : (place : Place) (w : View) → w.is_prepared ≡ true → preparation_due place w ≡ None
+preparation_due-prepared place w e =
+    let off : not w.is_prepared ≡ false = rw e in
+    rw (and_right (is_voting place w && is_inside_view w) (not w.is_prepared) off)
+
+digest_if-accepted : (place : Place) (w : View) (o : Option Block) (d : List ℕ) → digest_if place w o ≡ Some d → (b : Block) × (o ≡ Some b)
+digest_if-accepted place w (Some b) d e = (b, refl)
+digest_if-accepted place w None d e = cc
+
+-- what is prepared has been accepted
+pub preparation_due-accepted : (place : Place) (w : View) (d : List ℕ) → preparation_due place w ≡ Some d → (b : Block) × (w.accepted ≡ Some b)
+preparation_due-accepted place w d e =
+    elim (cases_Bool (is_voting place w && is_inside_view w && not w.is_prepared)) [
+      inl t ↦ digest_if-accepted place w w.accepted d (rw t at e)
+    | inr f ↦ (let no : None ≡ Some d = rw f at e in cc)
+    ]
+
+-- neither call touches what was accepted
+pub accepted-kept_after : (accepts : Accepts) (place : Place) (w : View) (letter : Letter) → (kept_after accepts place w letter).accepted ≡ w.accepted
+accepted-kept_after accepts place w letter =
+    elim (cases_Bool (is_new accepts place w letter)) [ inl e ↦ rw e | inr e ↦ rw e ]
+
+pub is_prepared-kept_after : (accepts : Accepts) (place : Place) (w : View) (letter : Letter) → (kept_after accepts place w letter).is_prepared ≡ w.is_prepared
+is_prepared-kept_after accepts place w letter =
+    elim (cases_Bool (is_new accepts place w letter)) [ inl e ↦ rw e | inr e ↦ rw e ]
