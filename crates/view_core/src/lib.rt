@@ -8,6 +8,8 @@ mod dues;
 mod held;
 mod keeping;
 mod proposals;
+#[cfg(test)]
+mod tests;
 
 pub use held::ViewState;
 pub use node_model::Act;
