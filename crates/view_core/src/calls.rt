@@ -3,8 +3,9 @@ ghost use Rattle.std.specs.Prelude.{◌≡◌, ◌++◌, IfOk, OnOk, OnErr, fals
 ghost use Rattle.bft_wire.specs.declared.message.Message.TheVariants as message_of;
 ghost use Rattle.bft_wire.specs.declared.reason.Reason.TheVariants as reason;
 ghost use Rattle.node_model.specs.declared.act.Act.TheVariants as act_of;
-ghost use Rattle.node_model.specs.Acts.{due};
+ghost use Rattle.node_model.specs.Acts.{due, preparation_due, prepare_act};
 ghost use Rattle.node_model.specs.Answers.{
+  accepts_nothing,
   act_or,
   after_act,
   after_due,
@@ -18,6 +19,8 @@ ghost use Rattle.node_model.specs.Answers.{
   is_new,
   is_repeat,
   keep,
+  kept_after,
+  kept_or,
   message_reasons,
   own_reasons,
   prepare_answer,
@@ -28,7 +31,7 @@ ghost use Rattle.node_model.specs.Answers.{
   vote_answer,
 };
 ghost use Rattle.view_core.specs.Held.{is_held};
-ghost use Rattle.view_core.specs.Places.{IsPlace};
+ghost use Rattle.view_core.specs.Places.{IsPlace, StandsAt, turn_reasons};
 
 use crate::blocks::{is_block_of_view, is_carried_good};
 use crate::counts::is_among;
@@ -74,6 +77,24 @@ impl ViewState {
         }
     }
 
+    /// The act that is due, or else the reason for none.
+    fn told_or<V: Verifier>(
+        &mut self,
+        place: &Place,
+        verifier: &V,
+        other: Reason,
+    ) -> Result<Act, NoMemory>
+        requires { IsPlace place.now }
+        ensures act { IfOk result (λ act. act ≡ act_or (due (V.accepts verifier.now) place.now self.old) (act_of.Nothing other)) }
+        ensures after { IfOk result (λ act. self.new ≡ after_act act self.old) }
+        ensures err { OnErr result (self.new ≡ self.old) }
+    {
+        match self.told(place, verifier)? {
+            Some(act) => Ok(act),
+            None => Ok(Act::Nothing(other)),
+        }
+    }
+
     /// Whether the message is newly kept.
     fn is_new<V: Verifier>(&self, place: &Place, letter: &Letter, verifier: &V) -> bool
         requires { IsPlace place.now }
@@ -100,45 +121,45 @@ impl ViewState {
         from: u32,
         message: &PrePrepare,
         verifier: &V,
-    ) -> Act
+    ) -> Reason
         requires { IsPlace place.now }
-        ensures { result ≡ reason_or (first_reason (proposal_reasons (V.accepts verifier.now) place.now self.now from message.now)) reason.Repeat }
+        ensures { act_of.Nothing result ≡ reason_or (first_reason (proposal_reasons (V.accepts verifier.now) place.now self.now from message.now)) reason.Repeat }
     {
         if from != leader(place, self.view) {
-            Act::Nothing(Reason::NotLeader)
+            Reason::NotLeader
         } else if self.accepted.is_some() {
-            Act::Nothing(Reason::Accepted)
+            Reason::Accepted
         } else if !is_block_of_view(place, self.view, message) {
-            Act::Nothing(Reason::BadBlock)
+            Reason::BadBlock
         } else if !is_carried_good(place, &message.cert, verifier) {
-            Act::Nothing(Reason::BadCert)
+            Reason::BadCert
         } else {
-            Act::Nothing(Reason::Repeat)
+            Reason::Repeat
         }
     }
 
     /// Why a message that isn't newly kept brings nothing.
-    fn refusal<V: Verifier>(&self, place: &Place, letter: &Letter, verifier: &V) -> Act
+    fn refusal<V: Verifier>(&self, place: &Place, letter: &Letter, verifier: &V) -> Reason
         requires { IsPlace place.now }
-        ensures { result ≡ reason_or (first_reason (stands_outside place.now self.now letter.now ++ message_reasons (V.accepts verifier.now) place.now self.now letter.now.from letter.now.message)) reason.Repeat }
+        ensures { act_of.Nothing result ≡ reason_or (first_reason (stands_outside place.now self.now letter.now ++ message_reasons (V.accepts verifier.now) place.now self.now letter.now.from letter.now.message)) reason.Repeat }
     {
         if let Some(reason) = outside(place, self.view, self.left, letter) {
-            return Act::Nothing(reason);
+            return reason;
         }
         match &letter.message {
             Message::PrePrepare(message) => {
                 if message.number == place.height {
                     self.proposal_refusal(place, letter.from, message, verifier)
                 } else {
-                    Act::Nothing(Reason::Repeat)
+                    Reason::Repeat
                 }
             }
-            Message::Prepare(_) => Act::Nothing(Reason::Repeat),
+            Message::Prepare(_) => Reason::Repeat,
             Message::Commit(_) => {
                 if is_signed(letter, verifier) {
-                    Act::Nothing(Reason::Repeat)
+                    Reason::Repeat
                 } else {
-                    Act::Nothing(Reason::BadSignature)
+                    Reason::BadSignature
                 }
             }
         }
@@ -169,7 +190,27 @@ impl ViewState {
         }
     }
 
-    /// What a vote message brings, at the place.
+    /// What a vote message brings to a view that stands at the place.
+    fn placed_vote<V: Verifier>(
+        &mut self,
+        place: &Place,
+        letter: Letter,
+        verifier: &V,
+    ) -> Result<Act, NoMemory>
+        requires place { IsPlace place.now }
+        requires stands { StandsAt place.now self.old }
+        ensures answer { IfOk result (λ act. act ≡ vote_answer (V.accepts verifier.now) place.now self.old letter) }
+        ensures after { IfOk result (λ act. self.new ≡ after_act act (kept_after (V.accepts verifier.now) place.now self.old letter)) }
+        ensures err { OnErr result (self.new ≡ self.old) }
+    {
+        if self.is_new(place, &letter, verifier) {
+            return self.new_vote(place, letter, verifier);
+        }
+        let reason = self.refusal(place, &letter, verifier);
+        self.told_or(place, verifier, reason)
+    }
+
+    /// What a vote message brings.
     fn vote<V: Verifier>(
         &mut self,
         place: &Place,
@@ -182,14 +223,7 @@ impl ViewState {
         ensures err { OnErr result (self.new ≡ at_place place.now self.old) }
     {
         self.settle(place);
-        if self.is_new(place, &letter, verifier) {
-            return self.new_vote(place, letter, verifier);
-        }
-        let refusal = self.refusal(place, &letter, verifier);
-        match self.told(place, verifier)? {
-            Some(act) => Ok(act),
-            None => Ok(refusal),
-        }
+        self.placed_vote(place, letter, verifier)
     }
 
     /// A proposal has come. The answer is the act that is due then, `Kept`, or the first reason that
@@ -228,6 +262,40 @@ impl ViewState {
         self.vote(place, Letter { from, message }, verifier)
     }
 
+    /// Keeps a Prepare, or answers why not, in a view that stands at the place.
+    fn keep_prepare(&mut self, place: &Place, from: u32, message: &Prepare) -> Act
+        requires place { IsPlace place.now }
+        requires stands { StandsAt place.now self.old }
+        ensures answer { result ≡ kept_or (is_new accepts_nothing place.now self.old (record { from = from; message = message_of.Prepare message.now })) (first_reason (stands_outside place.now self.old (record { from = from; message = message_of.Prepare message.now }))) reason.Repeat }
+        ensures after { self.new ≡ kept_after accepts_nothing place.now self.old (record { from = from; message = message_of.Prepare message.now }) }
+    {
+        let message = Message::Prepare(*message);
+        let letter = Letter { from, message };
+        if let Some(reason) = outside(place, self.view, self.left, &letter) {
+            return Act::Nothing(reason);
+        }
+        if has_slot(self.kept.as_slice(), &letter) {
+            return Act::Nothing(Reason::Repeat);
+        }
+        self.keep(letter);
+        Act::Kept
+    }
+
+    /// The preparation that is due, which stands as done from then on, or else the other answer.
+    fn prepared_or(&mut self, place: &Place, other: Act) -> Act
+        requires { IsPlace place.now }
+        ensures act { result ≡ act_or (prepare_act (preparation_due place.now self.old)) other }
+        ensures after { self.new ≡ after_told (prepare_act (preparation_due place.now self.old)) self.old }
+    {
+        match self.preparation_due(place) {
+            Some(digest) => {
+                self.is_prepared = true;
+                Act::Prepare(digest)
+            }
+            None => other,
+        }
+    }
+
     /// A Prepare has come. The answer is that the accepted block is prepared, `Kept`, or the first reason
     /// that holds. It takes no memory.
     pub fn on_prepare(&mut self, place: &Place, from: u32, message: &Prepare) -> Act
@@ -236,61 +304,8 @@ impl ViewState {
         ensures after { self.new ≡ after_prepare place.now self.old (record { from = from; message = message_of.Prepare message.now }) }
     {
         self.settle(place);
-        let message = Message::Prepare(*message);
-        let letter = Letter { from, message };
-        let refusal = match outside(place, self.view, self.left, &letter) {
-            Some(reason) => Act::Nothing(reason),
-            None => {
-                if has_slot(self.kept.as_slice(), &letter) {
-                    Act::Nothing(Reason::Repeat)
-                } else {
-                    self.keep(letter);
-                    Act::Kept
-                }
-            }
-        };
-        match self.preparation_due(place) {
-            Some(digest) => {
-                self.is_prepared = true;
-                Act::Prepare(digest)
-            }
-            None => refusal,
-        }
-    }
-
-    /// Proposes a block of these requests. The answer is that it is accepted, or the first reason that
-    /// holds. Without memory the view is at the place.
-    pub fn propose<V: Verifier>(
-        &mut self,
-        place: &Place,
-        offer: List<Request>,
-        _verifier: &V,
-    ) -> Result<Act, NoMemory>
-        requires { IsPlace place.now }
-        ensures answer { IfOk result (λ act. act ≡ propose_answer place.now (at_place place.now self.old) offer) }
-        ensures after { OnOk result (self.new ≡ after_propose place.now self.old offer) }
-        ensures err { OnErr result (self.new ≡ at_place place.now self.old) }
-    {
-        self.settle(place);
-        if let Some(reason) = self.own_refusal(place) {
-            return Ok(Act::Nothing(reason));
-        }
-        if leader(place, self.view) != self.me {
-            return Ok(Act::Nothing(Reason::NotLeader));
-        }
-        if self.accepted.is_some() {
-            return Ok(Act::Nothing(Reason::Accepted));
-        }
-        if offer.is_empty() {
-            return Ok(Act::Nothing(Reason::NotYet));
-        }
-        match proposed_block(*self.kept.allocator(), place, self.view, offer)? {
-            Some(block) => {
-                self.accept(&block)?;
-                Ok(Act::Accept(block))
-            }
-            None => Ok(Act::Nothing(Reason::BadBlock)),
-        }
+        let other = self.keep_prepare(place, from, message);
+        self.prepared_or(place, other)
     }
 
     /// Why the node itself may not act.
@@ -308,6 +323,62 @@ impl ViewState {
         }
     }
 
+    /// Why the node may not propose, whatever is offered.
+    fn turn_refusal(&self, place: &Place) -> Option<Reason>
+        requires { IsPlace place.now }
+        ensures { result ≡ first_reason (own_reasons place.now self.now ++ turn_reasons place.now self.now) }
+    {
+        if let Some(reason) = self.own_refusal(place) {
+            return Some(reason);
+        }
+        if leader(place, self.view) != self.me {
+            Some(Reason::NotLeader)
+        } else if self.accepted.is_some() {
+            Some(Reason::Accepted)
+        } else {
+            None
+        }
+    }
+
+    /// Proposes in a view that stands at the place.
+    fn placed_proposal(&mut self, place: &Place, offer: List<Request>) -> Result<Act, NoMemory>
+        requires { IsPlace place.now }
+        ensures answer { IfOk result (λ act. act ≡ propose_answer place.now self.old offer) }
+        ensures after { IfOk result (λ act. self.new ≡ after_act act self.old) }
+        ensures err { OnErr result (self.new ≡ self.old) }
+    {
+        if let Some(reason) = self.turn_refusal(place) {
+            return Ok(Act::Nothing(reason));
+        }
+        if offer.is_empty() {
+            return Ok(Act::Nothing(Reason::NotYet));
+        }
+        match proposed_block(*self.kept.allocator(), place, self.view, offer)? {
+            Some(block) => {
+                self.accept(&block)?;
+                Ok(Act::Accept(block))
+            }
+            None => Ok(Act::Nothing(Reason::BadBlock)),
+        }
+    }
+
+    /// Proposes a block of these requests. The answer is that it is accepted, or the first reason that
+    /// holds. Without memory the view is at the place.
+    pub fn propose<V: Verifier>(
+        &mut self,
+        place: &Place,
+        offer: List<Request>,
+        _verifier: &V,
+    ) -> Result<Act, NoMemory>
+        requires { IsPlace place.now }
+        ensures answer { IfOk result (λ act. act ≡ propose_answer place.now (at_place place.now self.old) offer) }
+        ensures after { OnOk result (self.new ≡ after_propose place.now self.old offer) }
+        ensures err { OnErr result (self.new ≡ at_place place.now self.old) }
+    {
+        self.settle(place);
+        self.placed_proposal(place, offer)
+    }
+
     /// What is due now: the first of accept, prepare and deliver, or the first reason that holds. Without
     /// memory the view is at the place.
     pub fn due<V: Verifier>(&mut self, place: &Place, verifier: &V) -> Result<Act, NoMemory>
@@ -317,12 +388,7 @@ impl ViewState {
         ensures err { OnErr result (self.new ≡ at_place place.now self.old) }
     {
         self.settle(place);
-        if let Some(act) = self.told(place, verifier)? {
-            return Ok(act);
-        }
-        match self.own_refusal(place) {
-            Some(reason) => Ok(Act::Nothing(reason)),
-            None => Ok(Act::Nothing(Reason::NotYet)),
-        }
+        let other = self.own_refusal(place).unwrap_or(Reason::NotYet);
+        self.told_or(place, verifier, other)
     }
 }

@@ -1,9 +1,10 @@
 //! What is due in a view, and where the view stands.
-ghost use Rattle.std.specs.Prelude.{◌≡◌, ◌<◌, ◌^◌, ◌&&◌, IfOk};
+ghost use Rattle.std.specs.Prelude.{◌≡◌, ◌≤◌, ◌&&◌, IfOk, length, nat_le, vec_capacity};
 ghost use Rattle.node_model.specs.Leading.{leader};
-ghost use Rattle.node_model.specs.Acts.{acceptance_due, delivery_due, is_inside_view, is_voting, preparation_due};
-ghost use Rattle.node_model.specs.Answers.{at_place};
-ghost use Rattle.view_core.specs.Places.{IsPlace};
+ghost use Rattle.node_model.specs.Acts.{acceptance_due, commits, delivery_due, is_inside_view, is_voting, preparation_due, quorum_of};
+ghost use Rattle.node_model.specs.Checks.{is_next_block};
+ghost use Rattle.node_model.specs.Answers.{at_place, fresh, raised};
+ghost use Rattle.view_core.specs.Places.{IsPlace, StandsAt};
 
 use crate::blocks::{is_acceptable, is_next_block};
 use crate::counts::{commit_count, commits, is_among, kept_proposal, prepares};
@@ -21,40 +22,55 @@ pub(crate) fn leader(place: &Place, view: u64) -> u32
     members[(view % members.len() as u64) as usize]
 }
 
+/// Holds these ids in place of what it held, for which there is room.
+fn refill(held: &mut Vec<u32>, ids: &[u32])
+    requires { length ids.now ≤ vec_capacity held.old }
+    ensures items { held.new.items ≡ ids.now }
+    ensures capacity { vec_capacity held.new ≡ vec_capacity held.old }
+{
+    held.clear();
+    for id in ids {
+        held.push_reserved(*id);
+    }
+}
+
 impl ViewState {
     /// Drops what belongs to another configuration, or to other numbers.
     pub(crate) fn settle(&mut self, place: &Place)
         requires { IsPlace place.now }
-        ensures { self.new ≡ at_place place.now self.old }
+        ensures at { self.new ≡ at_place place.now self.old }
+        ensures stands { StandsAt place.now self.new }
     {
         if self.config == place.config.number
             && self.members.as_slice() == place.config.members.as_slice()
         {
             if self.height != place.height {
-                self.raise(place.height);
+                self.raise(place);
             }
         } else {
             self.begin(place);
         }
     }
 
-    fn raise(&mut self, height: u64)
-        requires { height < 2 ^ 62 }
+    /// Moves to another height, and drops what belongs to other numbers.
+    fn raise(&mut self, place: &Place)
+        requires { IsPlace place.now }
+        ensures { self.new ≡ raised place.now self.old }
     {
+        let height = place.height;
         self.height = height;
         self.accepted = None;
         self.is_prepared = false;
         self.kept.retain(|letter| is_near(height, letter));
     }
 
+    /// Begins under another configuration, with nothing held.
     fn begin(&mut self, place: &Place)
         requires { IsPlace place.now }
+        ensures { self.new ≡ fresh self.old.me place.now }
     {
         self.kept.clear();
-        self.members.clear();
-        for member in place.config.members.as_slice() {
-            self.members.push_reserved(*member);
-        }
+        refill(&mut self.members, place.config.members.as_slice());
         self.config = place.config.number;
         self.height = place.height;
         self.view = 0;
@@ -128,6 +144,7 @@ impl ViewState {
     /// Whether the accepted block is to be delivered.
     fn is_delivery_due(&self, place: &Place, accepted: &Accepted) -> bool
         requires { IsPlace place.now }
+        ensures { result ≡ (nat_le (quorum_of place.now.config) (length (commits place.now self.now accepted.now.digest)) && is_next_block place.now accepted.now.block) }
     {
         let members = place.config.members.as_slice();
         let votes = commit_count(

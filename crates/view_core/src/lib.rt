@@ -9,6 +9,8 @@ mod held;
 mod keeping;
 mod proposals;
 mod readers;
+#[cfg(test)]
+mod tests;
 
 pub use held::ViewState;
 pub use node_model::Act;

@@ -1,0 +1,31 @@
+use Rattle.std.proofs.Common.{◌≡◌, subst}
+use Rattle.bft_wire.specs.declared.message.Message.TheVariants as message_of
+use Rattle.node_model.specs.declared.letter.Letter.{Letter}
+use Rattle.node_model.specs.Acts.{View}
+use Rattle.node_model.specs.Answers.{accepts_nothing, after_act, kept_after, prepare_answer}
+use Rattle.view_core.proofs.AnswerLemmas.{prepare_is, prepare_leaves}
+use Rattle.view_core.proofs.held.ViewState.on_prepare.Goals as goal
+
+pub settle-requires : goal.settle-requires
+settle-requires c = c.requires
+
+pub keep_prepare-other-requires-clause-place : goal.keep_prepare-other-requires-clause-place
+keep_prepare-other-requires-clause-place c = c.requires
+
+pub keep_prepare-other-requires-clause-stands : goal.keep_prepare-other-requires-clause-stands
+keep_prepare-other-requires-clause-stands c = c.settle.ensures.stands
+
+pub prepared_or-requires : goal.prepared_or-requires
+prepared_or-requires c = c.requires
+
+pub returns-clause-answer : goal.returns-clause-answer
+returns-clause-answer c =
+    let letter : Letter = record { from = c.args.from; message = message_of.Prepare c.args.message.now } in
+    let answer = prepare_is c.args.place.now c.settle.new.self c.keep_prepare-other.new.self letter c.keep_prepare-other.result c.prepared_or.result c.keep_prepare-other.ensures.answer c.keep_prepare-other.ensures.after c.prepared_or.ensures.act in
+    subst (λ (w : View). c.prepared_or.result ≡ prepare_answer c.args.place.now w letter) c.settle.ensures.at answer
+
+pub returns-clause-after : goal.returns-clause-after
+returns-clause-after c =
+    let letter : Letter = record { from = c.args.from; message = message_of.Prepare c.args.message.now } in
+    let left = prepare_leaves c.args.place.now c.settle.new.self c.keep_prepare-other.new.self c.prepared_or.new.self letter c.keep_prepare-other.ensures.after c.prepared_or.ensures.after in
+    subst (λ (w : View). c.prepared_or.new.self ≡ after_act (prepare_answer c.args.place.now w letter) (kept_after accepts_nothing c.args.place.now w letter)) c.settle.ensures.at left
