@@ -118,19 +118,6 @@ first_prepare None None None h e = cc
 pub preparation_due-told : (accepts : Accepts) (place : Place) (w : View) (d : List ℕ) → act_in (act_of.Prepare d) ≡ due accepts place w → (acceptance_due accepts place w ≡ None) × (preparation_due place w ≡ Some d)
 preparation_due-told accepts place w d e = first_prepare (acceptance_due accepts place w) (preparation_due place w) (delivery_due place w) d e
 
--- neither an acceptance nor a preparation
-pub record IsNoVote (act : Act) : Type 0 where
-  pub accepts : (b : Block) → act_in act ≡ Some (act_of.Accept b) → ⊥
-  pub prepares : (d : List ℕ) → act_in act ≡ Some (act_of.Prepare d) → ⊥
-
-first_delivery : (act : Act) (a : Option Block) (p : Option (List ℕ)) (d : Option (Block × Cert)) → IsNoVote act → act_in act ≡ first_of (accept_act a) (first_of (prepare_act p) (deliver_act d)) → (a ≡ None) × (p ≡ None) × (act_in act ≡ deliver_act d)
-first_delivery act (Some c) p d h e = absurd (h.accepts c e)
-first_delivery act None (Some g) d h e = absurd (h.prepares g e)
-first_delivery act None None d h e = (refl, refl, e)
-
-pub no_vote-due : (accepts : Accepts) (place : Place) (w : View) (act : Act) → IsNoVote act → act_in act ≡ due accepts place w → (acceptance_due accepts place w ≡ None) × (preparation_due place w ≡ None) × (act_in act ≡ deliver_act (delivery_due place w))
-no_vote-due accepts place w act h e = first_delivery act (acceptance_due accepts place w) (preparation_due place w) (delivery_due place w) h e
-
 -- AFTER AN ACCEPTANCE nothing is to be accepted, after a preparation no vote is due
 
 acceptance_if : (accepts : Accepts) (place : Place) (w : View) → is_none w.accepted ≡ false → acceptance_due accepts place w ≡ None
