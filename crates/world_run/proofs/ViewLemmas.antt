@@ -1,5 +1,5 @@
 -- What the calls on a view answer and leave, where the view is at the place.
-use Rattle.std.proofs.Common.{◌≡◌, ℕ, ◌+◌, Bool, true, false, ◌&&◌, ◌==◌, not, cond, List, [], ◌∷◌, Option, Some, None, refl, sym, ap, ◌∙◌, ◌⊎◌, inl, inr, is_none}
+use Rattle.std.proofs.Common.{◌≡◌, ℕ, ◌+◌, ◌≤◌, Bool, true, false, ◌&&◌, ◌==◌, not, cond, List, [], ◌∷◌, length, Option, Some, None, refl, sym, ap, subst, ◌∙◌, ◌⊎◌, inl, inr, arith, is_none}
 use Rattle.std.specs.Str.{bytes_eq}
 use Rattle.std.proofs.lemmas.Bool.{cases_Bool, and_parts, and_from, and_left, and_right, eqb-true, eq-eqb}
 use Rattle.std.proofs.lemmas.Slice.Eq.{bytes_eq-Decides}
@@ -8,11 +8,13 @@ use Rattle.ord_types.specs.declared.values.Cert.{Cert}
 use Rattle.safety_model.specs.Blocks.{Block}
 use Rattle.signer_edge.specs.Accepts.{Accepts}
 use Rattle.bft_wire.specs.declared.reason.Reason.{Reason}
+use Rattle.bft_wire.specs.declared.message.Message.TheVariants as message_of
+use Rattle.node_model.specs.Letters.{Prepare}
 use Rattle.node_model.specs.declared.letter.Letter.{Letter}
 use Rattle.node_model.specs.declared.act.Act.{Act}
 use Rattle.node_model.specs.declared.act.Act.TheVariants as act_of
 use Rattle.node_model.specs.Acts.{View, accept_act, acceptance_due, block_if, deliver_act, delivery_due, digest_if, due, first_of, is_inside_view, is_voting, kept_proposal, preparation_due, prepare_act}
-use Rattle.node_model.specs.Answers.{act_or, after_act, at_place, due_answer, fresh, is_new, is_same_config, keep, kept_after, kept_or, raised, reason_or, vote_answer}
+use Rattle.node_model.specs.Answers.{accepts_nothing, act_or, after_act, after_prepare, at_place, due_answer, fresh, is_new, is_same_config, keep, kept_after, kept_or, prepare_answer, raised, reason_or, unplaced, vote_answer}
 use Rattle.world_run.specs.Making.{act_in}
 use Rattle.world_run.specs.Standing.{IsAt}
 
@@ -116,19 +118,6 @@ first_prepare None None None h e = cc
 pub preparation_due-told : (accepts : Accepts) (place : Place) (w : View) (d : List ℕ) → act_in (act_of.Prepare d) ≡ due accepts place w → (acceptance_due accepts place w ≡ None) × (preparation_due place w ≡ Some d)
 preparation_due-told accepts place w d e = first_prepare (acceptance_due accepts place w) (preparation_due place w) (delivery_due place w) d e
 
--- neither an acceptance nor a preparation
-pub record IsNoVote (act : Act) : Type 0 where
-  pub accepts : (b : Block) → act_in act ≡ Some (act_of.Accept b) → ⊥
-  pub prepares : (d : List ℕ) → act_in act ≡ Some (act_of.Prepare d) → ⊥
-
-first_delivery : (act : Act) (a : Option Block) (p : Option (List ℕ)) (d : Option (Block × Cert)) → IsNoVote act → act_in act ≡ first_of (accept_act a) (first_of (prepare_act p) (deliver_act d)) → (a ≡ None) × (p ≡ None) × (act_in act ≡ deliver_act d)
-first_delivery act (Some c) p d h e = absurd (h.accepts c e)
-first_delivery act None (Some g) d h e = absurd (h.prepares g e)
-first_delivery act None None d h e = (refl, refl, e)
-
-pub no_vote-due : (accepts : Accepts) (place : Place) (w : View) (act : Act) → IsNoVote act → act_in act ≡ due accepts place w → (acceptance_due accepts place w ≡ None) × (preparation_due place w ≡ None) × (act_in act ≡ deliver_act (delivery_due place w))
-no_vote-due accepts place w act h e = first_delivery act (acceptance_due accepts place w) (preparation_due place w) (delivery_due place w) h e
-
 -- AFTER AN ACCEPTANCE nothing is to be accepted, after a preparation no vote is due
 
 acceptance_if : (accepts : Accepts) (place : Place) (w : View) → is_none w.accepted ≡ false → acceptance_due accepts place w ≡ None
@@ -167,3 +156,60 @@ accepted-kept_after accepts place w letter =
 pub is_prepared-kept_after : (accepts : Accepts) (place : Place) (w : View) (letter : Letter) → (kept_after accepts place w letter).is_prepared ≡ w.is_prepared
 is_prepared-kept_after accepts place w letter =
     elim (cases_Bool (is_new accepts place w letter)) [ inl e ↦ rw e | inr e ↦ rw e ]
+
+-- A NODE THAT STANDS NOWHERE YET
+
+no_members : (ms : List ℕ) → 1 ≤ length ms → bytes_eq [] ms ≡ false
+no_members [] h = absurd (omega arith)
+no_members (m ∷ ms) h = refl
+
+pub at_place-unplaced : (id : ℕ) (place : Place) → 1 ≤ length place.config.members → at_place place (unplaced id) ≡ fresh id place
+at_place-unplaced id place h =
+    let other : is_same_config place (unplaced id) ≡ false = and_right (0 == place.config.number) (bytes_eq [] place.config.members) (no_members place.config.members h) in
+    rw other
+
+-- A PREPARE
+
+prepare_told : (p : Option (List ℕ)) (b : Bool) (o : Option Reason) (r : Reason) (d : List ℕ) → act_or (prepare_act p) (kept_or b o r) ≡ act_of.Prepare d → p ≡ Some d
+prepare_told (Some x) b o r d e = cc
+prepare_told None true o r d e = cc
+prepare_told None false None r d e = cc
+prepare_told None false (Some s) r d e = cc
+
+prepare_not_told : (p : Option (List ℕ)) (b : Bool) (o : Option Reason) (r : Reason) (w : View) → ((d : List ℕ) → act_or (prepare_act p) (kept_or b o r) ≡ act_of.Prepare d → ⊥) → after_act (act_or (prepare_act p) (kept_or b o r)) w ≡ w
+prepare_not_told (Some x) b o r w h = absurd (h x refl)
+prepare_not_told None true o r w h = refl
+prepare_not_told None false None r w h = refl
+prepare_not_told None false (Some s) r w h = refl
+
+first_prepared : (a : Option Block) (p : Option (List ℕ)) (d : Option (Block × Cert)) (digest : List ℕ) → a ≡ None → p ≡ Some digest → Some (act_of.Prepare digest) ≡ first_of (accept_act a) (first_of (prepare_act p) (deliver_act d))
+first_prepared a p d digest e f = rw (e, f)
+
+-- what a Prepare is answered by, and what it leaves, at the place
+module _ (accepts : Accepts) (place : Place) (w : View) (from : ℕ) (message : Prepare) (act : Act) (left : View) (at : IsAt place w) (answer : act ≡ prepare_answer place (at_place place w) (record { from = from; message = message_of.Prepare message })) (after : left ≡ after_prepare place w (record { from = from; message = message_of.Prepare message })) where
+  abbrev kept_view : View
+  kept_view = kept_after accepts place w (record { from = from; message = message_of.Prepare message })
+
+  answer_here : act ≡ prepare_answer place w (record { from = from; message = message_of.Prepare message })
+  answer_here = answer ∙ ap (λ v. prepare_answer place v (record { from = from; message = message_of.Prepare message })) (at_place-at place w at)
+
+  left_here : left ≡ after_act act kept_view
+  left_here = after ∙ ap (λ v. after_act (prepare_answer place v (record { from = from; message = message_of.Prepare message })) (kept_after accepts_nothing place v (record { from = from; message = message_of.Prepare message }))) (at_place-at place w at) ∙ ap (λ a. after_act a kept_view) (sym answer_here)
+
+  pub left-prepared : (d : List ℕ) → act ≡ act_of.Prepare d → left ≡ after_act (act_of.Prepare d) kept_view
+  left-prepared d e = left_here ∙ ap (λ a. after_act a kept_view) e
+
+  pub due-prepared : (d : List ℕ) → act ≡ act_of.Prepare d → Some (act_of.Prepare d) ≡ due accepts place kept_view
+  due-prepared d e =
+      let p = prepare_told (preparation_due place kept_view) _ _ _ d (sym answer_here ∙ e) in
+      let accepted = preparation_due-accepted place kept_view d p in
+      first_prepared (acceptance_due accepts place kept_view) (preparation_due place kept_view) (delivery_due place kept_view) d (acceptance_due-accepted accepts place kept_view accepted.0 accepted.1) p
+
+  pub left-kept : ((d : List ℕ) → act ≡ act_of.Prepare d → ⊥) → left ≡ kept_view
+  left-kept h = left_here ∙ ap (λ a. after_act a kept_view) answer_here ∙ prepare_not_told (preparation_due place kept_view) _ _ _ kept_view (λ d e. h d (answer_here ∙ e))
+
+  pub left-at : IsAt place left
+  left-at = subst (λ v. IsAt place v) (sym left_here) (IsAt-after_act place act kept_view (IsAt-kept_after accepts place w (record { from = from; message = message_of.Prepare message }) at))
+
+  pub left-me : left.me ≡ w.me
+  left-me = ap (λ (v : View). v.me) left_here ∙ me-after_act act kept_view ∙ me-kept_after accepts place w (record { from = from; message = message_of.Prepare message })

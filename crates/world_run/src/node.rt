@@ -332,10 +332,11 @@ impl Node {
         ensures makes { IfOk result (λ told. (b : Before) → Stands b self.old outside.now → Makes b (begins core_ways (keys_before b) (core_of self.old) (FromMember (record { from = from; message = message_of.Prepare message.now }))) told self.new outside.now) }
         ensures due { IfOk result (λ told. (b : Before) → Stands b self.old outside.now → IsDue b (begins core_ways (keys_before b) (core_of self.old) (FromMember (record { from = from; message = message_of.Prepare message.now }))) told) }
     {
-        match self.view.on_prepare(&self.place, from, message) {
-            Act::Prepare(digest) => Ok(Act::Prepare(digest)),
-            _ => self.told(outside),
+        let told = self.view.on_prepare(&self.place, from, message);
+        if let Act::Prepare(digest) = told {
+            return Ok(Act::Prepare(digest));
         }
+        self.told(outside)
     }
 
     /// What a message of another member brings: the act that is due with it.
