@@ -13,3 +13,4 @@ pub mod Worlds
 pub mod Lines
 pub mod Turns
 pub mod Safety
+pub mod Within
