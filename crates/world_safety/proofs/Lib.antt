@@ -14,3 +14,4 @@ pub mod Lines
 pub mod Turns
 pub mod Safety
 pub mod Within
+pub mod Telling
