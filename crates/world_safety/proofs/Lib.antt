@@ -15,3 +15,4 @@ pub mod Turns
 pub mod Safety
 pub mod Within
 pub mod Telling
+pub mod Among

@@ -2,8 +2,7 @@
 use Rattle.std.proofs.Common.{◌≡◌, ℕ, zero, suc, ◌+◌, ◌-◌, Bool, true, false, List, [], ◌∷◌, ◌++◌, length, map, reverse, cond, refl, sym, subst, ap, ap₂, ◌∙◌, Option, Some, None, Result, Ok, Err}
 use Rattle.std.specs.Prelude.{codes, nat_lt, position, slice_get}
 use Rattle.std.specs.List.{flat_map}
-use Rattle.std.proofs.lemmas.Grind.{flat_map-append}
-use Rattle.std.proofs.lemmas.List.{append-nil, append_assoc, map-append}
+use Rattle.std.proofs.lemmas.List.{append-nil, append_assoc, map-append, reverse-append}
 use Rattle.safety_model.specs.Blocks.{Request}
 use Rattle.safety_model.specs.Facts.{History}
 use Rattle.safety_model.specs.declared.fact.Fact.{Fact}
@@ -16,20 +15,20 @@ use Rattle.script.specs.declared.command.Meaning.TheVariants.{Nothing, Means, Wr
 use Rattle.script.specs.declared.command.Stop.TheVariants as stop_of
 use Rattle.script.specs.declared.command.Range.{Range}
 use Rattle.script_play.specs.declared.ending.Ending.{Ending}
-use Rattle.script_play.specs.declared.ending.Ending.TheVariants.{Done, Limit}
+use Rattle.script_play.specs.declared.ending.Ending.TheVariants.{Limit}
 use Rattle.script_play.specs.Runs.{Run, limit_turn, line_turn, max_line, max_lines, run, said, went}
 use Rattle.script_play.specs.Turns.{Turn}
 use Rattle.script_play.specs.Worlds.{worlds_after}
 use Rattle.node_model.specs.Keeping.{PastNode}
 use Rattle.node_model.specs.Steps.{Event}
-use Rattle.world_model.specs.Histories.{past_setting, run_of}
+use Rattle.world_model.specs.Histories.{past_setting}
 use Rattle.world_model.specs.Pools.{answer}
 use Rattle.world_model.specs.Texts.{deliver_text, fact_text, flush_text, limit_text}
-use Rattle.world_model.specs.Turns.{at_node, closing_of, deliver_turn, deliveries, delivery, delivery_to, event_turn, first_config, first_world, flush_turn, flushes, goes_on, most_entries, most_flushed, ordinary, refuses, says, some_world, submit_turn, submitted, then_on, tick_at, ticks, turn_in, turn_of}
+use Rattle.world_model.specs.Turns.{at_node, closing_of, deliver_turn, deliveries, delivery, delivery_to, event_turn, flush_turn, flushes, goes_on, most_entries, most_flushed, ordinary, refuses, says, some_world, submit_turn, then_on, tick_at, ticks, turn_in, turn_of}
 use Rattle.world_model.specs.Worlds.{Entry, Node, entry, is_waiting, letter_from, making, marked, node_at, tick_of}
-use Rattle.world_safety.specs.Telling.{EveryTextIsTold, IsTold, NoEntry, NoWorld, Part, Refusal, Reply, SecondGenesis, UnknownNode, blocks_text, end_text, events_of, histories_after, last_of, part_text, parts_text, reply_text, told_in}
+use Rattle.world_safety.specs.Telling.{EveryTextIsTold, IsTold, NoEntry, NoWorld, Part, Refusal, Reply, SecondGenesis, UnknownNode, blocks_text, end_text, events_of, facts_of, histories_after, last_of, part_text, parts_text, reply_text, told_in}
 use Rattle.world_safety.specs.Telling as it
-use Rattle.world_safety.specs.Within.{PastWorld, after_delivery, after_event, after_letter, after_submit, after_tick, all_worlds_of, in_deliver, in_deliveries, in_flush, in_flushes, in_ticks, where_node, worlds_in, worlds_in_line, worlds_in_lines, worlds_in_turn, worlds_said}
+use Rattle.world_safety.specs.Within.{PastWorld, after_delivery, after_event, after_letter, after_submit, after_tick, in_deliver, in_deliveries, in_flush, in_flushes, in_ticks, where_node, worlds_in, worlds_in_line, worlds_in_lines, worlds_in_turn, worlds_said}
 
 -- LISTS
 
@@ -45,6 +44,12 @@ histories-append : (h : History) (xs ys : List (List Fact)) → histories_after 
 histories-append h [] ys = refl
 histories-append h (facts ∷ xs) ys = ap (λ hs. (reverse facts ++ h) ∷ hs) (histories-append (reverse facts ++ h) xs ys)
 
+histories-last : (h : History) (events : List (List Fact)) → last_of h (histories_after h events) ≡ reverse (facts_of events) ++ h
+histories-last h [] = refl
+histories-last h (facts ∷ events) =
+    histories-last (reverse facts ++ h) events
+    ∙ sym (append_assoc (reverse (facts_of events)) (reverse facts) h) ∙ ap (λ (front : History). front ++ h) (sym (reverse-append facts (facts_of events)))
+
 told_some : (ws : List PastWorld) → map told_in (map Some ws) ≡ map (λ (w : PastWorld). w.told) ws
 told_some [] = refl
 told_some (w ∷ ws) = ap (λ hs. w.told ∷ hs) (told_some ws)
@@ -52,17 +57,17 @@ told_some (w ∷ ws) = ap (λ hs. w.told ∷ hs) (told_some ws)
 -- A TURN
 
 -- the turn leads to the last of its worlds, or ends the run before the script's end
-abbrev GoesTo : {W : Type 0} → Result W Ending → W → Type 0
+abbrev pub GoesTo : {W : Type 0} → Result W Ending → W → Type 0
 GoesTo (Ok next) last = next ≡ last
 GoesTo (Err ending) last = (o : Option PastWorld) → end_text ending o ≡ []
 
 -- the worlds within a turn have the histories of its events, and it prints their block lines and its reply
-record Tells {W : Type 0} (told : W → History) (number : ℕ) (w : W) (within : List W) (turn : Turn W) : Type 0 where
-  events : List (List Fact)
-  reply : Reply
-  histories : map told within ≡ histories_after (told w) events
-  printed : turn.printed ≡ blocks_text number events ++ reply_text number reply
-  next : GoesTo turn.next (last_of w within)
+pub record Tells {W : Type 0} (told : W → History) (number : ℕ) (w : W) (within : List W) (turn : Turn W) : Type 0 where
+  pub events : List (List Fact)
+  pub reply : Reply
+  pub histories : map told within ≡ histories_after (told w) events
+  pub printed : turn.printed ≡ blocks_text number events ++ reply_text number reply
+  pub next : GoesTo turn.next (last_of w within)
 
 abbrev told : PastWorld → History
 told w = w.told
@@ -254,7 +259,7 @@ module _ (number : ℕ) where
   unfolding limit_text
   limit_tells o limit = replies told_in o (limit_turn number limit) (it.Limited limit) refl (λ o. refl)
 
-  line_tells : (o : Option PastWorld) (line : List ℕ) → Tells told_in number o (worlds_in_line o number line) (line_turn (turn_of past_setting) o number line)
+  pub line_tells : (o : Option PastWorld) (line : List ℕ) → Tells told_in number o (worlds_in_line o number line) (line_turn (turn_of past_setting) o number line)
   unfolding line_turn worlds_in_line
   line_tells o line = go (nat_lt max_lines number) (nat_lt max_line (length line))
     where
@@ -319,4 +324,12 @@ lines_tell (line ∷ more) o number =
 pub every_text_told : EveryTextIsTold
 every_text_told script =
     let tell = lines_tell (lines script) None 1 in
-    record { parts = tell.parts; histories = ap (λ hs. [] ∷ hs) tell.histories; text = tell.text }
+    let within = worlds_in_lines (lines script) None 1 in
+    record {
+      parts = tell.parts;
+      histories = ap (λ hs. [] ∷ hs) tell.histories;
+      last =
+          sym (last-map told_in None within) ∙ ap (last_of []) tell.histories
+          ∙ histories-last [] (events_of tell.parts) ∙ append-nil (reverse (facts_of (events_of tell.parts)));
+      text = tell.text;
+    }

@@ -1,9 +1,8 @@
 -- All worlds of every script are safe, those within its lines too.
-use Rattle.std.proofs.Common.{◌≡◌, ℕ, zero, suc, ◌+◌, ◌-◌, ◌*◌, ◌≤◌, Bool, true, false, List, [], ◌∷◌, ◌++◌, length, cond, refl, Option, Some, None, Result, Ok, Err, arith}
+use Rattle.std.proofs.Common.{◌≡◌, ℕ, zero, suc, ◌+◌, ◌-◌, ◌*◌, ◌≤◌, Bool, true, false, List, [], ◌∷◌, length, cond, refl, Option, Some, None, Result, Ok, Err, arith}
 use Rattle.std.specs.Prelude.{◌==◌, IfOk, nat_lt, position, slice_get}
 use Rattle.std.specs.List.{AllByRecursion}
 use Rattle.std.proofs.lemmas.Bool.{ltb-false, or_right}
-use Rattle.safety_model.specs.Blocks.{Request}
 use Rattle.safety_model.specs.State.{Setup}
 use Rattle.line_flow.specs.Lines.{lines}
 use Rattle.script.specs.Commands.{IsWellFormed}
@@ -23,10 +22,9 @@ use Rattle.world_model.specs.Turns.{delivery, first_config, most_flushed, ordina
 use Rattle.world_model.specs.Worlds.{Entry, Node, entry, is_waiting, letter_from, marked, node_at, tick_of}
 use Rattle.world_safety.specs.Safe.{IsSafe, setup_on}
 use Rattle.world_safety.specs.Telling.{AllWorldsAreSafe}
-use Rattle.world_safety.specs.Within.{PastWorld, after_delivery, after_letter, after_submit, after_tick, all_worlds_of, in_deliver, in_deliveries, in_flush, in_flushes, in_ticks, where_node, worlds_in, worlds_in_line, worlds_in_lines, worlds_in_turn, worlds_said}
+use Rattle.world_safety.specs.Within.{PastWorld, after_delivery, after_letter, after_submit, after_tick, in_deliver, in_deliveries, in_flush, in_flushes, in_ticks, where_node, worlds_in, worlds_in_line, worlds_in_lines, worlds_in_turn, worlds_said}
 use Rattle.world_safety.proofs.Lines.{IsGoodAt, line_keeps}
 use Rattle.world_safety.proofs.Lists.{all_append, all_map, all_mapped}
-use Rattle.world_safety.proofs.Nodes.{IsGoodEvent}
 use Rattle.world_safety.proofs.Safety.{good_safe}
 use Rattle.world_safety.proofs.Turns.{IsGoodIn, commands_keep, delivery_leads, entry_in, first_good, marked_good, offer_fits, submit_leads, tick_leads}
 use Rattle.world_safety.proofs.Worlds.{EntryIn, GoodWorld, NodeIn, event_keeps, found_entry, found_node, world_more}
@@ -78,9 +76,10 @@ module _ (su : Setup) (number : ℕ) where
           ])
       go None is then_on = tt
       go (Some e) is then_on =
-          let rests = entry_in su number most k e w good is in
-          (delivery_good most (k - 1) e w good rests,
-           behind (GoodWorld su most) (GoodWorld su most) (delivery past_setting number (k - 1) e w).next (λ next. in_deliveries number n (k + 1) next rest) (delivery_leads su number most (k - 1) e w good rests) then_on)
+          let rests = entry_in su number most k e w good is in (
+            delivery_good most (k - 1) e w good rests,
+            behind (GoodWorld su most) (GoodWorld su most) (delivery past_setting number (k - 1) e w).next (λ next. in_deliveries number n (k + 1) next rest) (delivery_leads su number most (k - 1) e w good rests) then_on,
+          )
 
   deliver_good : (most : ℕ) (ranges : List Range) (w : PastWorld) → GoodWorld su most w → AllByRecursion (GoodWorld su most) (in_deliver number ranges w)
   unfolding in_deliver
@@ -124,7 +123,7 @@ module _ (su : Setup) (number : ℕ) where
       let r = ordinary client serial payload in
       all_more most (most + 10000) (worlds_in number w (Submit id client serial payload)) (omega arith)
       (where_good most most id w (node_at id w.nodes) (λ node. after_submit w node r ∷ []) good refl
-          (λ node is. (submit_leads su number most w node r (record { client = omega arith; serial = omega arith }) good is, tt)))
+      (λ node is. (submit_leads su number most w node r (record { client = omega arith; serial = omega arith }) good is, tt)))
   command_good most w (Tick id count) formed good =
       let few = formed.few in
       all_more (most + count) (most + 10000) (worlds_in number w (Tick id count)) (omega arith)
@@ -145,7 +144,7 @@ turn_good (Some w) number command formed good =
     let within = command_good good.setup number most w command formed good.good in
     all_mapped (IsGoodIn (number + 1)) Some (worlds_in number w command)
     (all_map (GoodWorld good.setup (most + 10000)) (λ w. IsGoodIn (number + 1) (Some w))
-        (λ next is. record { setup = good.setup; good = world_more good.setup (most + 10000) (10000 * (number + 1)) next (omega arith) is }) (worlds_in number w command) within)
+    (λ next is. record { setup = good.setup; good = world_more good.setup (most + 10000) (10000 * (number + 1)) next (omega arith) is }) (worlds_in number w command) within)
 
 said_good : (o : Option PastWorld) (number : ℕ) (line : List ℕ) (m : Meaning) → meaning line ≡ m → IsGoodIn number o → AllByRecursion (IsGoodIn (number + 1)) (worlds_said o number m)
 said_good o number line Nothing is good = tt
@@ -177,7 +176,7 @@ lines_good (line ∷ more) o number good =
     all_append (IsGoodAt IsGoodIn) (worlds_in_line o number line) (worlds_after (line_turn (turn_of past_setting) o number line).next (λ next. worlds_in_lines more next (number + 1)))
     (line_good o number line good)
     (from_next (IsGoodAt IsGoodIn) (line_turn (turn_of past_setting) o number line).next (λ next. worlds_in_lines more next (number + 1))
-        (λ next is. (let kept = line_keeps (turn_of past_setting) IsGoodIn commands_keep o next number line good is in lines_good more next (number + 1) kept.1)))
+    (λ next is. (let kept = line_keeps (turn_of past_setting) IsGoodIn commands_keep o next number line good is in lines_good more next (number + 1) kept.1)))
 
 pub all_worlds_safe : AllWorldsAreSafe
 all_worlds_safe script =

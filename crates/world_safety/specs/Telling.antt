@@ -95,16 +95,22 @@ parts_text number (part ∷ parts) = part_text number part ++ parts_text (number
 abbrev pub events_of : List Part → List (List Fact)
 events_of parts = flat_map (λ (part : Part). part.events) parts
 
+-- in their order
+abbrev pub facts_of : List (List Fact) → List Fact
+facts_of events = flat_map (λ facts. facts) events
+
 -- the closing lines, where the script was played to its end
 abbrev pub end_text : Ending → Option PastWorld → List ℕ
 end_text Done o = closing_of past_setting o
 end_text _ o = []
 
--- There is one world for each event, whose history grew by the facts of that event; and the text has the block lines of
--- these facts, in their order, and no others: beside them only the replies to the lines, and the closing lines of the last world.
+-- There is one world for each event, whose history grew by the facts of that event, so that the last world's history has
+-- them all; and the text has the block lines of these facts, in their order, and no others: beside them only the replies
+-- to the lines, and the closing lines of the last world.
 pub record IsTold (script : List ℕ) : Type 0 where
   pub parts : List Part
   pub histories : map told_in (all_worlds_of [] script) ≡ [] ∷ histories_after [] (events_of parts)
+  pub last : told_in (last_of None (all_worlds_of [] script)) ≡ reverse (facts_of (events_of parts))
   pub text : (run_of [] script).text ≡ parts_text 1 parts ++ end_text (run_of [] script).ending (last_of None (all_worlds_of [] script))
 
 -- all worlds of every script are safe, not only those between its lines

@@ -1,5 +1,6 @@
 -- All worlds that a script goes through: the one after each event of each line, that past the network's limit included.
 use Rattle.std.specs.Prelude.{ℕ, zero, suc, ◌+◌, ◌-◌, nat_lt, List, [], ◌∷◌, ◌++◌, length, map, position, slice_get, Option, Some, None, if◌then◌else◌}
+use Rattle.std.specs.List.{AllByRecursion, Contains}
 use Rattle.safety_model.specs.Blocks.{Request}
 use Rattle.safety_model.specs.Facts.{History}
 use Rattle.line_flow.specs.Lines.{lines}
@@ -13,7 +14,7 @@ use Rattle.script_play.specs.Runs.{line_turn, max_line, max_lines}
 use Rattle.script_play.specs.Worlds.{worlds_after}
 use Rattle.node_model.specs.Keeping.{PastNode}
 use Rattle.node_model.specs.Steps.{Event}
-use Rattle.world_model.specs.Histories.{Outcome, past_setting}
+use Rattle.world_model.specs.Histories.{Outcome, past_setting, worlds_of}
 use Rattle.world_model.specs.Turns.{delivery, first_config, first_world, most_flushed, ordinary, submitted, tick_at, turn_of}
 use Rattle.world_model.specs.Worlds.{Entry, Node, World, entry, is_waiting, letter_from, making, marked, node_at, tick_of, with_node, world_after}
 
@@ -121,3 +122,7 @@ worlds_in_lines (line ∷ more) o number =
 -- none at first, and then the world after each event
 abbrev pub all_worlds_of : List Outcome → List ℕ → List (Option PastWorld)
 all_worlds_of outcomes script = None ∷ worlds_in_lines (lines script) None 1
+
+-- those before the lines, and the last one, are among them
+abbrev pub WorldsAreAmongAll : Type 0
+WorldsAreAmongAll = (script : List ℕ) → AllByRecursion (Contains (all_worlds_of [] script)) (worlds_of [] script)
