@@ -13,3 +13,6 @@ pub mod Worlds
 pub mod Lines
 pub mod Turns
 pub mod Safety
+pub mod Within
+pub mod Telling
+pub mod Among

@@ -36,7 +36,7 @@ module _ {W : Type 0} (turn : W → ℕ → Command → Turn W) (Good : ℕ → 
   long_keeps world next number line true good e = absurd (cc)
   long_keeps world next number line false good e = said_keeps world next number line (meaning line) refl good e
 
-  line_keeps : (world next : W) (number : ℕ) (line : List ℕ) → Good number world → (line_turn turn world number line).next ≡ Ok next → (number ≤ max_lines) × Good (number + 1) next
+  pub line_keeps : (world next : W) (number : ℕ) (line : List ℕ) → Good number world → (line_turn turn world number line).next ≡ Ok next → (number ≤ max_lines) × Good (number + 1) next
   unfolding line_turn
   line_keeps world next number line good e = go (nat_lt max_lines number) refl e
     where

@@ -62,7 +62,7 @@ world_safe number w le is =
       agreement = subst (λ (su : Setup). NoCollision su w.told → Agreement su w.told) here agreement;
     }
 
-good_safe : (o : Option (World PastNode History)) (number : ℕ) → number ≤ max_lines + 1 → IsGoodIn number o → IsSafe o
+pub good_safe : (o : Option (World PastNode History)) (number : ℕ) → number ≤ max_lines + 1 → IsGoodIn number o → IsSafe o
 good_safe None number le good = tt
 good_safe (Some w) number le good = world_safe number w le good
 

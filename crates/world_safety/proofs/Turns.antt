@@ -35,7 +35,7 @@ use Rattle.world_safety.proofs.Nodes.{IsGoodEvent, opened}
 use Rattle.world_safety.proofs.Worlds.{EntryIn, GoodWorld, NodeIn, all_set, event_keeps, found_entry, found_node, nodes_apart, with_ids, with_new, world_more}
 
 -- a world, in the turn that leads to it
-abbrev Leads : {W : Type 0} → (W → Type 0) → Turn W → Type 0
+abbrev pub Leads : {W : Type 0} → (W → Type 0) → Turn W → Type 0
 Leads P turn = IfOk turn.next P
 
 on_leads : {V W : Type 0} (P : V → Type 0) (Q : W → Type 0) (printed : List ℕ) (r : Result V Ending) (rest : V → Turn W) → IfOk r P → ((v : V) → P v → Leads Q (rest v)) → Leads Q (then_on printed r rest)
@@ -68,14 +68,14 @@ module _ (su : Setup) (number : ℕ) where
       go false = event_keeps su most w node event good is brought
 
   -- TICK
-  offer_fits : (node : Node PastNode) → All RequestFits node.pool → All RequestFits (offer_to past_ways node)
+  pub offer_fits : (node : Node PastNode) → All RequestFits node.pool → All RequestFits (offer_to past_ways node)
   offer_fits node fits = go (may_propose (past_ways.place node.state) (past_ways.view node.state))
     where
       go : (t : Bool) → All RequestFits (cond t (offer node.pool) [])
       go true = All-take RequestFits 1 node.pool fits
       go false = All-nil RequestFits
 
-  tick_leads : (most : ℕ) (w : World PastNode History) (id : ℕ) (o : Option (Node PastNode)) → GoodWorld su most w → node_at id w.nodes ≡ o → Leads (GoodWorld su (most + 1)) (tick_at past_setting number w o)
+  pub tick_leads : (most : ℕ) (w : World PastNode History) (id : ℕ) (o : Option (Node PastNode)) → GoodWorld su most w → node_at id w.nodes ≡ o → Leads (GoodWorld su (most + 1)) (tick_at past_setting number w o)
   tick_leads most w id None good is = world_more su most (most + 1) w (omega arith) good
   tick_leads most w id (Some node) good is =
       let it = found_node (NodeIn su w.told) (λ node. node.id == id) w.nodes node good.nodes is in
@@ -90,7 +90,7 @@ module _ (su : Setup) (number : ℕ) where
       (λ next good. more_leads (GoodWorld su (most + 1 + n)) (GoodWorld su (most + suc n)) (ticks past_setting number id n next) (λ w good. world_more su (most + 1 + n) (most + suc n) w (omega arith) good) (ticks_lead id n (most + 1) next good))
 
   -- DELIVER
-  marked_good : (most : ℕ) (k : ℕ) (e : Entry) (w : World PastNode History) → GoodWorld su most w → EntryIn w.told e → GoodWorld su most (marked k e w)
+  pub marked_good : (most : ℕ) (k : ℕ) (e : Entry) (w : World PastNode History) → GoodWorld su most w → EntryIn w.told e → GoodWorld su most (marked k e w)
   marked_good most k e w good is =
       record {
         first = good.first;
@@ -110,10 +110,10 @@ module _ (su : Setup) (number : ℕ) where
       more_leads (GoodWorld su (most + 0)) (GoodWorld su most) (event_turn past_setting number w node (letter_from e)) (λ w good. world_more su (most + 0) most w (omega arith) good)
       (event_leads most w node (letter_from e) good (found_node (NodeIn su w.told) (λ node. node.id == e.to) w.nodes node good.nodes is) (record { rests = or_right _ _ rests.ground; fits = rests.fits }))
 
-  delivery_leads : (most : ℕ) (k : ℕ) (e : Entry) (w : World PastNode History) → GoodWorld su most w → EntryIn w.told e → Leads (GoodWorld su most) (delivery past_setting number k e w)
+  pub delivery_leads : (most : ℕ) (k : ℕ) (e : Entry) (w : World PastNode History) → GoodWorld su most w → EntryIn w.told e → Leads (GoodWorld su most) (delivery past_setting number k e w)
   delivery_leads most k e w good rests = delivery_to_leads most e (marked k e w) (node_at e.to w.nodes) (marked_good most k e w good rests) rests refl
 
-  entry_in : (most : ℕ) (k : ℕ) (e : Entry) (w : World PastNode History) → GoodWorld su most w → entry k w ≡ Some e → EntryIn w.told e
+  pub entry_in : (most : ℕ) (k : ℕ) (e : Entry) (w : World PastNode History) → GoodWorld su most w → entry k w ≡ Some e → EntryIn w.told e
   entry_in most zero e w good is = absurd (cc)
   entry_in most (suc k) e w good is = found_entry (EntryIn w.told) w.network k e good.network is
 
@@ -163,7 +163,7 @@ module _ (su : Setup) (number : ℕ) where
   pool_fits pool r (Malformed at) fits one = fits
   pool_fits pool r KnownPending fits one = fits
 
-  submit_leads : (most : ℕ) (w : World PastNode History) (node : Node PastNode) (r : Request) → RequestFits r → GoodWorld su most w → NodeIn su w.told node → Leads (GoodWorld su most) (submit_turn number w node r)
+  pub submit_leads : (most : ℕ) (w : World PastNode History) (node : Node PastNode) (r : Request) → RequestFits r → GoodWorld su most w → NodeIn su w.told node → Leads (GoodWorld su most) (submit_turn number w node r)
   submit_leads most w node r fits good is =
       let new = submitted node r in
       record {
@@ -189,7 +189,7 @@ module _ (su : Setup) (number : ℕ) where
   still most more turn le good = more_leads (GoodWorld su most) (GoodWorld su more) turn (λ w good. world_more su most more w le good) good
 
   -- a line brings at most 10,000 proposals
-  command_leads : (most : ℕ) (w : World PastNode History) (command : Command) → IsWellFormed command → GoodWorld su most w → Leads (GoodWorld su (most + 10000)) (turn_in past_setting number w command)
+  pub command_leads : (most : ℕ) (w : World PastNode History) (command : Command) → IsWellFormed command → GoodWorld su most w → Leads (GoodWorld su (most + 10000)) (turn_in past_setting number w command)
   command_leads most w (Genesis members) formed good = world_more su most (most + 10000) w (omega arith) good
   command_leads most w (Submit id client serial payload) formed good =
       let client_below = formed.client_below in
@@ -217,7 +217,7 @@ members_in (id ∷ ids) members within = (within id (or_left _ _ (eq-eqb id id r
 members_small : (members : List ℕ) → AreIds members → AreSmall members
 members_small members are = All-weaker IsId (λ id. id < 2 ^ 32) (λ id is. (let below = is.below in omega arith)) members are.each
 
-first_good : (most : ℕ) (members : List ℕ) → AreIds members → GoodWorld (setup_on (first_config members)) most (first_world past_setting (first_config members))
+pub first_good : (most : ℕ) (members : List ℕ) → AreIds members → GoodWorld (setup_on (first_config members)) most (first_world past_setting (first_config members))
 first_good most members are =
     let c = first_config members in
     let su = setup_on c in
@@ -264,7 +264,7 @@ good_later : (number : ℕ) (o : Option (World PastNode History)) → IsGoodIn n
 good_later number None good = tt
 good_later number (Some w) good = record { setup = good.setup; good = world_more good.setup (10000 * number) (10000 * (number + 1)) w (omega arith) good.good }
 
-commands_keep : KeepsAt (turn_of past_setting) IsGoodIn
+pub commands_keep : KeepsAt (turn_of past_setting) IsGoodIn
 commands_keep =
     record {
       command = λ world next number line command means good is.

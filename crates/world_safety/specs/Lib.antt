@@ -1,2 +1,4 @@
 pub mod Resting
 pub mod Safe
+pub mod Within
+pub mod Telling

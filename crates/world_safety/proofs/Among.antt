@@ -1,0 +1,45 @@
+-- The worlds between the lines of a script are among all its worlds.
+use Rattle.std.proofs.Common.{ℕ, ◌+◌, List, [], ◌∷◌, ◌++◌, sym, subst, Option, None, Result, Ok, Err}
+use Rattle.std.specs.List.{AllByRecursion, Contains}
+use Rattle.std.proofs.lemmas.List.Elements.{All-contains_itself, recursion_from_All}
+use Rattle.line_flow.specs.Lines.{lines}
+use Rattle.script_play.specs.declared.ending.Ending.{Ending}
+use Rattle.script_play.specs.Runs.{line_turn}
+use Rattle.script_play.specs.Worlds.{worlds, worlds_after}
+use Rattle.world_model.specs.Histories.{past_setting}
+use Rattle.world_model.specs.Turns.{turn_of}
+use Rattle.world_safety.specs.Telling.{last_of}
+use Rattle.world_safety.specs.Within.{PastWorld, WorldsAreAmongAll, all_worlds_of, worlds_in_line, worlds_in_lines}
+use Rattle.world_safety.proofs.Telling.{GoesTo, line_tells}
+
+all_parts : {X : Type 0} (P : X → Type 0) (xs ys : List X) → AllByRecursion P (xs ++ ys) → AllByRecursion P xs × AllByRecursion P ys
+all_parts P [] ys all = (tt, all)
+all_parts P (x ∷ xs) ys all = let parts = all_parts P xs ys all.1 in ((all.0, parts.0), parts.1)
+
+at_last : {X : Type 0} (P : X → Type 0) (x : X) (xs : List X) → P x → AllByRecursion P xs → P (last_of x xs)
+at_last P x [] here all = here
+at_last P x (y ∷ xs) here all = at_last P y xs all.0 all.1
+
+-- what holds of all worlds holds of those between the lines
+module _ (P : Option PastWorld → Type 0) where
+  behind : (o : Option PastWorld) (here : List (Option PastWorld)) (r : Result (Option PastWorld) Ending) (within between : Option PastWorld → List (Option PastWorld)) → P o → GoesTo r (last_of o here)
+      → AllByRecursion P (here ++ worlds_after r within) → ((next : Option PastWorld) → P next → AllByRecursion P (within next) → AllByRecursion P (between next)) → AllByRecursion P (worlds_after r between)
+  behind o here (Ok next) within between holds to all more =
+      let parts = all_parts P here (within next) all in
+      more next (subst P (sym to) (at_last P o here holds parts.0)) parts.1
+  behind o here (Err ending) within between holds to all more = tt
+
+  between_lines : (ls : List (List ℕ)) (o : Option PastWorld) (number : ℕ) → P o → AllByRecursion P (worlds_in_lines ls o number) → AllByRecursion P (worlds (turn_of past_setting) ls o number)
+  unfolding worlds worlds_in_lines
+  between_lines [] o number holds all = (holds, tt)
+  between_lines (line ∷ more) o number holds all = (
+    holds,
+    behind o (worlds_in_line o number line) (line_turn (turn_of past_setting) o number line).next (λ next. worlds_in_lines more next (number + 1)) (λ next. worlds (turn_of past_setting) more next (number + 1))
+        holds (line_tells number o line).next all (λ next holds all. between_lines more next (number + 1) holds all),
+  )
+
+pub worlds_among : WorldsAreAmongAll
+worlds_among script =
+    let every = all_worlds_of [] script in
+    let all = recursion_from_All (Contains every) every (All-contains_itself every) in
+    between_lines (Contains every) (lines script) None 1 all.0 all.1

@@ -1,0 +1,122 @@
+-- The text of a script is told by the histories of its worlds: the block lines are those of the facts that happened, line by line.
+use Rattle.std.specs.Prelude.{◌≡◌, ℕ, ◌+◌, List, [], ◌∷◌, ◌++◌, codes, map, reverse, Option, Some, None}
+use Rattle.std.specs.List.{AllByRecursion, flat_map}
+use Rattle.safety_model.specs.Facts.{History}
+use Rattle.safety_model.specs.declared.fact.Fact.{Fact}
+use Rattle.script_play.specs.declared.ending.Ending.{Ending}
+use Rattle.script_play.specs.declared.ending.Ending.TheVariants.{Done}
+use Rattle.script_play.specs.Texts.{malformed_text, not_built_text}
+use Rattle.world_model.specs.Histories.{past_setting, run_of}
+use Rattle.world_model.specs.Pools as pool
+use Rattle.world_model.specs.Texts.{answer_text, deliver_text, fact_text, flush_text, genesis_text, limit_text, refused_text, tick_text}
+use Rattle.world_model.specs.Turns.{closing_of}
+use Rattle.world_safety.specs.Safe.{IsSafe}
+use Rattle.world_safety.specs.Within.{PastWorld, all_worlds_of}
+
+-- HISTORIES
+
+abbrev pub told_in : Option PastWorld → History
+told_in None = []
+told_in (Some w) = w.told
+
+-- the history after each event, where these are the facts of the events; the newest fact stands first
+abbrev pub histories_after : History → List (List Fact) → List History
+histories_after h [] = []
+histories_after h (facts ∷ events) = (reverse facts ++ h) ∷ histories_after (reverse facts ++ h) events
+
+-- the last of x and of those after it
+abbrev pub last_of : {X : Type 0} → X → List X → X
+last_of x [] = x
+last_of x (y ∷ ys) = last_of y ys
+
+-- THE TEXT OF A LINE
+
+pub data Refusal : Type 0 where
+  NoWorld : Refusal
+  SecondGenesis : Refusal
+  UnknownNode : Refusal
+  NoEntry : Refusal
+
+abbrev pub reason : Refusal → List ℕ
+reason NoWorld = codes "no world"
+reason SecondGenesis = codes "second genesis"
+reason UnknownNode = codes "unknown node"
+reason NoEntry = codes "no entry"
+
+-- what is said of a line in the end, behind its block lines
+pub data Reply : Type 0 where
+  -- an empty line, or a comment
+  Silent : Reply
+  Begun : Reply
+  -- the node, and its pool's answer
+  Answered : ℕ → pool.Answer → Reply
+  -- the node
+  Ticked : ℕ → Reply
+  -- how many entries came
+  Came : ℕ → Reply
+  Flushed : ℕ → Reply
+  Refused : Refusal → Reply
+  -- the limit that was reached
+  Limited : ℕ → Reply
+  Malformed : Reply
+  NotBuilt : Reply
+
+abbrev pub reply_text : ℕ → Reply → List ℕ
+reply_text number Silent = []
+reply_text number Begun = genesis_text number
+reply_text number (Answered node answer) = answer_text number node answer
+reply_text number (Ticked node) = tick_text number node
+reply_text number (Came count) = deliver_text number count
+reply_text number (Flushed count) = flush_text number count
+reply_text number (Refused refusal) = refused_text number (reason refusal)
+reply_text number (Limited limit) = limit_text number limit
+reply_text number Malformed = malformed_text number
+reply_text number NotBuilt = not_built_text number
+
+-- the facts of each event of a line, and its reply
+pub record Part : Type 0 where
+  pub events : List (List Fact)
+  pub reply : Reply
+
+-- the block lines of these events
+abbrev pub blocks_text : ℕ → List (List Fact) → List ℕ
+blocks_text number events = flat_map (λ facts. flat_map (fact_text number) facts) events
+
+abbrev pub part_text : ℕ → Part → List ℕ
+part_text number part = blocks_text number part.events ++ reply_text number part.reply
+
+-- THE TEXT OF A SCRIPT
+
+-- one part for each line, of which the first has this number
+abbrev pub parts_text : ℕ → List Part → List ℕ
+parts_text number [] = []
+parts_text number (part ∷ parts) = part_text number part ++ parts_text (number + 1) parts
+
+abbrev pub events_of : List Part → List (List Fact)
+events_of parts = flat_map (λ (part : Part). part.events) parts
+
+-- in their order
+abbrev pub facts_of : List (List Fact) → List Fact
+facts_of events = flat_map (λ facts. facts) events
+
+-- the closing lines, where the script was played to its end
+abbrev pub end_text : Ending → Option PastWorld → List ℕ
+end_text Done o = closing_of past_setting o
+end_text _ o = []
+
+-- There is one world for each event, whose history grew by the facts of that event, so that the last world's history has
+-- them all; and the text has the block lines of these facts, in their order, and no others: beside them only the replies
+-- to the lines, and the closing lines of the last world.
+pub record IsTold (script : List ℕ) : Type 0 where
+  pub parts : List Part
+  pub histories : map told_in (all_worlds_of [] script) ≡ [] ∷ histories_after [] (events_of parts)
+  pub last : told_in (last_of None (all_worlds_of [] script)) ≡ reverse (facts_of (events_of parts))
+  pub text : (run_of [] script).text ≡ parts_text 1 parts ++ end_text (run_of [] script).ending (last_of None (all_worlds_of [] script))
+
+-- all worlds of every script are safe, not only those between its lines
+abbrev pub AllWorldsAreSafe : Type 0
+AllWorldsAreSafe = (script : List ℕ) → AllByRecursion IsSafe (all_worlds_of [] script)
+
+-- and their histories tell the script's text
+abbrev pub EveryTextIsTold : Type 0
+EveryTextIsTold = (script : List ℕ) → IsTold script
