@@ -4,8 +4,9 @@ ghost use Rattle.ord_types.specs.Causes.{Rose};
 ghost use Rattle.ord_types.specs.Told.{told, Took, TookFront};
 ghost use Rattle.script_play.specs.Statuses.{IsOwn, fault_number, status_of};
 ghost use Rattle.std.specs.List.{AllByRecursion};
-ghost use Rattle.world_model.specs.Histories.{run_of, worlds_of};
+ghost use Rattle.world_model.specs.Histories.{run_of};
 ghost use Rattle.world_safety.specs.Safe.{IsSafe};
+ghost use Rattle.world_safety.specs.Within.{all_worlds_of};
 ghost use Rattle.orderer.specs.Words.{asked};
 ghost use Rattle.orderer.specs.declared.commands.Asked.TheVariants as asked_for;
 
@@ -56,10 +57,10 @@ pub fn run_offline<S: Source, K: Sink>(
         Took (K.content out.old) (K.content out.new) (run_of [] (told (S.left source.old))).text }
     ensures all_read { result ≡ 0 → IsSome (S.left source.old) → told (S.left source.new) ≡ [] }
 
-    // In every world of the script what the nodes did is a run by the rules, every message rests on what its
-    // sender did, and, where no two texts collide, the ledgers agree.
+    // In every world of the script, the one after each of its events, what the nodes did is a run by the rules, every
+    // message rests on what its sender did, and, where no two texts collide, the ledgers agree.
     ensures safe { asked (map string_bytes words.now) ≡ asked_for.World → IsSome (S.left source.old) →
-        AllByRecursion IsSafe (worlds_of [] (told (S.left source.old))) }
+        AllByRecursion IsSafe (all_worlds_of [] (told (S.left source.old))) }
 
     // 6, 7 and 8 come only after a fault of the source, of the sink, and for want of memory.
     ensures read_fault { result ≡ 6 → Rose (S.faults source.old) (S.faults source.new) }

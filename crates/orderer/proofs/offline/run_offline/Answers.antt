@@ -1,6 +1,6 @@
 use Rattle.ord_types.specs.Told.{told}
-use Rattle.world_safety.proofs.Safety.{worlds_safe}
+use Rattle.world_safety.proofs.Within.{all_worlds_safe}
 use Rattle.orderer.proofs.offline.run_offline.Goals as goal
 
 pub returns-in-World-clause-safe : goal.returns-in-World-clause-safe
-returns-in-World-clause-safe g c = λ _ _. worlds_safe (told (g.S.Source.left c.args.source.now))
+returns-in-World-clause-safe g c = λ _ _. all_worlds_safe (told (g.S.Source.left c.args.source.now))
