@@ -1,5 +1,5 @@
 -- The reasons that answers give.
-use Rattle.std.proofs.Common.{◌≡◌, ℕ, Bool, true, false, cond, List, [], ◌∷◌, ◌++◌, Option, Some, None, refl, sym, ap, ◌∙◌, ◌==◌, ◌+◌, ◌≤◌, ◌||◌, ◌⊎◌, inl, inr, arith, IsTrue, IfOk, OnOk, Result, Ok, Err, ◌&&◌, not, subst}
+use Rattle.std.proofs.Common.{◌≡◌, ℕ, Bool, true, false, cond, [], ◌∷◌, ◌++◌, Option, Some, None, refl, sym, ap, ◌∙◌, ◌==◌, ◌+◌, ◌≤◌, ◌||◌, inl, inr, arith, IfOk, OnOk, Result, Ok, Err, ◌&&◌, not, subst}
 use Rattle.std.proofs.lemmas.Bool.{cases_Bool, cases_eq, or_left, or_right, or_parts, eq-eqb, not-false, not-true, ltb-false, and_from, and_parts, and_right, not_from_true, not_from_false}
 use Rattle.bft_wire.specs.declared.message.Message.{Message}
 use Rattle.bft_wire.specs.declared.message.Message.TheVariants as message_of

@@ -1,5 +1,5 @@
 -- Whether the accepted block is to be delivered.
-use Rattle.std.proofs.Common.{◌≡◌, ℕ, ◌≤◌, Bool, true, false, cond, ◌&&◌, length, Option, Some, None, refl, List, ap, sym, subst, ◌∙◌}
+use Rattle.std.proofs.Common.{◌≡◌, ℕ, Bool, true, false, ◌&&◌, length, Some, None, refl, List, ap, sym, ◌∙◌}
 use Rattle.std.specs.Prelude.{nat_le}
 use Rattle.ord_types.specs.Members.{is_raft}
 use Rattle.ord_types.specs.Hashes.{block_hash}

@@ -1,5 +1,5 @@
 -- The answer to an offer.
-use Rattle.std.proofs.Common.{◌≡◌, ℕ, Bool, true, false, cond, ◌&&◌, not, List, [], ◌∷◌, ◌++◌, length, Option, Some, None, refl, sym, ap, subst, ◌∙◌, ◌==◌, ◌⊎◌, inl, inr}
+use Rattle.std.proofs.Common.{◌≡◌, Bool, true, false, cond, ◌&&◌, not, List, [], ◌∷◌, ◌++◌, length, Option, Some, None, refl, sym, ap, ◌∙◌, ◌==◌, inl, inr}
 use Rattle.std.specs.Prelude.{is_none, is_some, nat_le}
 use Rattle.std.proofs.lemmas.Bool.{cases_Bool}
 use Rattle.bft_wire.specs.declared.reason.Reason.{Reason}
@@ -9,7 +9,7 @@ use Rattle.ord_types.specs.declared.values.Place.{Place}
 use Rattle.safety_model.specs.Blocks.{Block, Request}
 use Rattle.node_model.specs.declared.act.Act.{Act}
 use Rattle.node_model.specs.declared.act.Act.TheVariants as act_of
-use Rattle.node_model.specs.Acts.{View, accept_act, is_inside_view, may_propose, proposal, proposed}
+use Rattle.node_model.specs.Acts.{View, accept_act, is_inside_view, may_propose, proposal}
 use Rattle.node_model.specs.Answers.{Reasons, act_or, first_reason, own_reasons, propose_answer, reason_or}
 use Rattle.node_model.specs.Checks.{is_next_block}
 use Rattle.node_model.specs.Leading.{leader}

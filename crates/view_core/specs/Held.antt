@@ -1,5 +1,5 @@
 -- What a view keeps true of the vote messages that it holds.
-use Rattle.std.specs.Prelude.{◌≡◌, ℕ, ◌≤◌, Bool, false, ◌&&◌, ◌==◌, List, [], ◌∷◌, length, IsTrue}
+use Rattle.std.specs.Prelude.{ℕ, ◌≤◌, Bool, ◌&&◌, ◌==◌, List, length, IsTrue}
 use Rattle.std.specs.List.{list_all, IsDistinct}
 use Rattle.ord_types.specs.Members.{is_in}
 use Rattle.node_model.specs.Letters.{same_slot, config_in, view_in}

@@ -1,5 +1,5 @@
 -- The places that a view's calls take.
-use Rattle.std.specs.Prelude.{◌≡◌, ℕ, ◌≤◌, ◌<◌, ◌^◌, ◌==◌, Bool, not, is_some, List, [], ◌∷◌, length}
+use Rattle.std.specs.Prelude.{◌≡◌, ◌≤◌, ◌<◌, ◌^◌, ◌==◌, not, is_some, [], ◌∷◌, length}
 use Rattle.bft_wire.specs.declared.reason.Reason.TheVariants as reason
 use Rattle.node_model.specs.Acts.{View}
 use Rattle.node_model.specs.Answers.{Reasons}

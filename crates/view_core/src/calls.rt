@@ -1,5 +1,5 @@
 //! The calls on a view: what is due, and what a message or an offer brings.
-ghost use Rattle.std.specs.Prelude.{◌≡◌, ◌++◌, IfOk, OnOk, OnErr, false, Some, IsTrue};
+ghost use Rattle.std.specs.Prelude.{◌≡◌, ◌++◌, IfOk, OnOk, OnErr, false, IsTrue};
 ghost use Rattle.bft_wire.specs.declared.message.Message.TheVariants as message_of;
 ghost use Rattle.bft_wire.specs.declared.reason.Reason.TheVariants as reason;
 ghost use Rattle.node_model.specs.declared.act.Act.TheVariants as act_of;

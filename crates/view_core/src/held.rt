@@ -1,10 +1,10 @@
 //! What a member holds of one configuration, view and height.
-ghost use Rattle.std.specs.Prelude.{◌≡◌, ◌≤◌, ◌<◌, IfOk, IfSome, length, vec_len, vec_capacity};
+ghost use Rattle.std.specs.Prelude.{◌≡◌, ◌≤◌, IfOk, vec_capacity};
 ghost use Rattle.std.specs.Option.{option_map};
 ghost use Rattle.ord_types.specs.Hashes.{block_hash};
 ghost use Rattle.node_model.specs.Acts.{View};
 ghost use Rattle.node_model.specs.Answers.{unplaced};
-ghost use Rattle.view_core.specs.Held.{IsHeld};
+ghost use Rattle.view_core.specs.Held.{IsHeld, most_kept};
 
 use node_model::Letter;
 use ord_types::{Block, Digest, NoMemory};
@@ -56,7 +56,7 @@ impl Model for ViewState {
     } };
 
     ghost invariant = { λ s.
-        IsHeld s.config s.members.items s.view s.height s.kept.items × (31 ≤ vec_capacity s.members) × (186 ≤ vec_capacity s.kept) };
+        IsHeld s.config s.members.items s.view s.height s.kept.items × (31 ≤ vec_capacity s.members) × (most_kept ≤ vec_capacity s.kept) };
 }
 
 impl ViewState {

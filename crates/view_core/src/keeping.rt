@@ -1,5 +1,5 @@
 //! Which vote messages are kept, and why others are not.
-ghost use Rattle.std.specs.Prelude.{◌≡◌, ◌+◌, ◌<◌, ◌^◌, ◌==◌, ◌||◌, ◌&&◌, true, Option};
+ghost use Rattle.std.specs.Prelude.{◌≡◌, ◌<◌, ◌^◌, ◌==◌, ◌&&◌};
 ghost use Rattle.std.specs.List.{list_any};
 ghost use Rattle.ord_types.specs.Members.{is_raft};
 ghost use Rattle.signer_edge.specs.Statements.{commit_text};

@@ -1,4 +1,4 @@
-use Rattle.std.proofs.Common.{arith, ◌∙◌, sym}
+use Rattle.std.proofs.Common.{arith}
 use Rattle.view_core.proofs.HeldLemmas.{held_none}
 use Rattle.view_core.proofs.held.ViewState.begin.Goals as goal
 

@@ -1,4 +1,4 @@
-use Rattle.std.proofs.Common.{◌≡◌, Option, ap, sym, ◌∙◌, subst, IfOk, OnOk, OnErr}
+use Rattle.std.proofs.Common.{◌≡◌, Option, ap, ◌∙◌, subst, IfOk, OnOk, OnErr}
 use Rattle.bft_wire.specs.declared.reason.Reason.{Reason}
 use Rattle.bft_wire.specs.declared.reason.Reason.TheVariants as reason
 use Rattle.node_model.specs.declared.act.Act.{Act}
@@ -7,12 +7,6 @@ use Rattle.node_model.specs.Acts.{View, due}
 use Rattle.node_model.specs.Answers.{act_or, after_act, due_answer, first_reason, own_reasons, reason_or}
 use Rattle.view_core.proofs.AnswerLemmas.{answered, reason_is}
 use Rattle.view_core.proofs.held.ViewState.due.Goals as goal
-
-pub settle-requires : goal.settle-requires
-settle-requires g c = c.requires
-
-pub told_or-requires : goal.told_or-requires
-told_or-requires g c = c.requires
 
 pub returns-clause-answer : goal.returns-clause-answer
 returns-clause-answer g c =

@@ -1,4 +1,4 @@
-use Rattle.std.proofs.Common.{◌≡◌, ◌<◌, ◌≤◌, Bool, false, length, arith, ap, sym, subst, rules, IsTrue}
+use Rattle.std.proofs.Common.{◌≡◌, ◌<◌, false, length, arith, sym, subst, rules, IsTrue}
 use Rattle.std.specs.List.{list_any}
 use Rattle.node_model.specs.Acts.{View}
 use Rattle.node_model.specs.Letters.{same_slot}

@@ -1,4 +1,4 @@
-use Rattle.std.proofs.Common.{length, arith}
+use Rattle.std.proofs.Common.{arith}
 use Rattle.view_core.proofs.HeldLemmas.{held_none}
 use Rattle.view_core.proofs.held.ViewState.new.Goals as goal
 

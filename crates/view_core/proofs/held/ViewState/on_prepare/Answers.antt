@@ -6,18 +6,6 @@ use Rattle.node_model.specs.Answers.{accepts_nothing, after_act, kept_after, pre
 use Rattle.view_core.proofs.AnswerLemmas.{prepare_is, prepare_leaves}
 use Rattle.view_core.proofs.held.ViewState.on_prepare.Goals as goal
 
-pub settle-requires : goal.settle-requires
-settle-requires c = c.requires
-
-pub keep_prepare-other-requires-clause-place : goal.keep_prepare-other-requires-clause-place
-keep_prepare-other-requires-clause-place c = c.requires
-
-pub keep_prepare-other-requires-clause-stands : goal.keep_prepare-other-requires-clause-stands
-keep_prepare-other-requires-clause-stands c = c.settle.ensures.stands
-
-pub prepared_or-requires : goal.prepared_or-requires
-prepared_or-requires c = c.requires
-
 pub returns-clause-answer : goal.returns-clause-answer
 returns-clause-answer c =
     let letter : Letter = record { from = c.args.from; message = message_of.Prepare c.args.message.now } in

@@ -1,17 +1,11 @@
-use Rattle.std.proofs.Common.{◌≡◌, ◌++◌, sym, subst, IfOk}
+use Rattle.std.proofs.Common.{◌≡◌, ◌++◌, false, sym, subst, IfOk}
 use Rattle.bft_wire.specs.declared.reason.Reason.TheVariants as reason
 use Rattle.node_model.specs.declared.act.Act.{Act}
 use Rattle.node_model.specs.declared.act.Act.TheVariants as act_of
 use Rattle.node_model.specs.Acts.{View, due}
-use Rattle.node_model.specs.Answers.{act_or, after_act, first_reason, message_reasons, reason_or, stands_outside}
+use Rattle.node_model.specs.Answers.{act_or, after_act, first_reason, is_new, message_reasons, reason_or, stands_outside}
 use Rattle.view_core.proofs.AnswerLemmas.{inside_is_held, new_parts, vote_new, vote_old, kept_new, kept_old}
 use Rattle.view_core.proofs.held.ViewState.placed_vote.Goals as goal
-
-pub is_new-requires : goal.is_new-requires
-is_new-requires g c = c.requires.place
-
-pub new_vote-requires-clause-place : goal.new_vote-requires-clause-place
-new_vote-requires-clause-place g c = c.requires.place
 
 pub new_vote-requires-clause-held : goal.new_vote-requires-clause-held
 new_vote-requires-clause-held g c =
@@ -32,18 +26,13 @@ returns-then-is_new-clause-after g c =
 pub returns-then-is_new-clause-err : goal.returns-then-is_new-clause-err
 returns-then-is_new-clause-err g c = c.new_vote.ensures.err
 
-pub refusal-reason-requires : goal.refusal-reason-requires
-refusal-reason-requires g c = c.requires.place
-
-pub told_or-requires : goal.told_or-requires
-told_or-requires g c = c.requires.place
-
 pub returns-clause-answer : goal.returns-clause-answer
 returns-clause-answer g c =
+    let old : is_new (g.V.Verifier.accepts c.args.verifier.now) c.args.place.now c.args.self.now c.args.letter ≡ false = sym c.if-is_new.ensures in
     let last : Act = reason_or (first_reason (stands_outside c.args.place.now c.args.self.now c.args.letter ++ message_reasons (g.V.Verifier.accepts c.args.verifier.now) c.args.place.now c.args.self.now c.args.letter.from c.args.letter.message)) reason.Repeat in
     let refused : act_of.Nothing c.refusal-reason.result ≡ last = c.refusal-reason.ensures in
     let told = subst (λ (other : Act). IfOk c.told_or.result (λ act. act ≡ act_or (due (g.V.Verifier.accepts c.args.verifier.now) c.args.place.now c.args.self.now) other)) refused c.told_or.ensures.act in
-    subst (λ (answer : Act). IfOk c.told_or.result (λ act. act ≡ answer)) (vote_old (g.V.Verifier.accepts c.args.verifier.now) c.args.place.now c.args.self.now c.args.letter (sym c.if-is_new.ensures)) told
+    subst (λ (answer : Act). IfOk c.told_or.result (λ act. act ≡ answer)) (vote_old (g.V.Verifier.accepts c.args.verifier.now) c.args.place.now c.args.self.now c.args.letter old) told
 
 pub returns-clause-after : goal.returns-clause-after
 returns-clause-after g c =

@@ -4,12 +4,6 @@ use Rattle.node_model.specs.Answers.{after_act, propose_answer}
 use Rattle.view_core.proofs.AnswerLemmas.{answered}
 use Rattle.view_core.proofs.held.ViewState.propose.Goals as goal
 
-pub settle-requires : goal.settle-requires
-settle-requires g c = c.requires
-
-pub placed_proposal-requires : goal.placed_proposal-requires
-placed_proposal-requires g c = c.requires
-
 pub returns-clause-answer : goal.returns-clause-answer
 returns-clause-answer g c =
     subst (λ (w : View). IfOk c.placed_proposal.result (λ act. act ≡ propose_answer c.args.place.now w c.args.offer)) c.settle.ensures.at c.placed_proposal.ensures.answer

@@ -1,6 +1,5 @@
-use Rattle.std.proofs.Common.{◌≡◌, ◌<◌, ◌≤◌, Bool, false, None, rules, length, arith, ap, sym, subst, filter, ◌∙◌, IsTrue}
+use Rattle.std.proofs.Common.{◌≡◌, false, None, rules, arith, ap, filter, ◌∙◌}
 use Rattle.std.proofs.lemmas.Fn.{filter_same}
-use Rattle.node_model.specs.Acts.{View}
 use Rattle.node_model.specs.Answers.{is_near, raised}
 use Rattle.view_core.proofs.HeldLemmas.{held_at}
 use Rattle.view_core.proofs.held.ViewState.raise.Goals as goal

@@ -4,15 +4,6 @@ use Rattle.node_model.specs.Answers.{after_act, kept_after, vote_answer}
 use Rattle.view_core.proofs.AnswerLemmas.{answered}
 use Rattle.view_core.proofs.held.ViewState.vote.Goals as goal
 
-pub settle-requires : goal.settle-requires
-settle-requires g c = c.requires
-
-pub placed_vote-requires-clause-place : goal.placed_vote-requires-clause-place
-placed_vote-requires-clause-place g c = c.requires
-
-pub placed_vote-requires-clause-stands : goal.placed_vote-requires-clause-stands
-placed_vote-requires-clause-stands g c = c.settle.ensures.stands
-
 pub returns-clause-answer : goal.returns-clause-answer
 returns-clause-answer g c =
     subst (λ (w : View). IfOk c.placed_vote.result (λ act. act ≡ vote_answer (g.V.Verifier.accepts c.args.verifier.now) c.args.place.now w c.args.letter)) c.settle.ensures.at c.placed_vote.ensures.answer
