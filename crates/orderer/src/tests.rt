@@ -151,8 +151,16 @@ sent 0
 #[test]
 fn endings(rt: HostRuntime) -> Result<(), Fail> {
     for (script, status, text) in [
-        (b"#\ntick x\nflush\n".as_slice(), 3, b"2 malformed\n".as_slice()),
-        (b"flush\nstop 1 keep\n", 17, b"1 refused no world\n2 not built\n"),
+        (
+            b"#\ntick x\nflush\n".as_slice(),
+            3,
+            b"2 malformed\n".as_slice(),
+        ),
+        (
+            b"flush\nstop 1 keep\n",
+            17,
+            b"1 refused no world\n2 not built\n",
+        ),
         (b"genesis bft 1,2\n", 17, b"1 not built\n"),
     ] {
         let (found, sink) = played(rt.alloc(), script, 0, 0)?;

@@ -74,10 +74,10 @@ settled-append xs ys [] = refl
 settled-append xs ys (r ∷ rs) =
     let rest = settled-append xs ys rs in
     elim (cases_Bool (has_id r.id xs)) [
-      inl e ↦ rw (has_id-append r.id xs ys, e) rest
-    | inr e ↦ elim (cases_Bool (has_id r.id ys)) [
-        inl f ↦ rw (has_id-append r.id xs ys, e, f) rest
-      | inr f ↦ rw (has_id-append r.id xs ys, e, f) (ap (λ l. r ∷ l) rest)
+      | inl e ↦ rw (has_id-append r.id xs ys, e) rest
+      | inr e ↦ elim (cases_Bool (has_id r.id ys)) [
+        | inl f ↦ rw (has_id-append r.id xs ys, e, f) rest
+        | inr f ↦ rw (has_id-append r.id xs ys, e, f) (ap (λ l. r ∷ l) rest)
       ]
     ]
 
@@ -395,9 +395,10 @@ Votes-same accepts place before x y told left e v = subst (λ l. Votes accepts p
 pub vote-at : {E : Type 0} (r : Result Act E) (accepts : Accepts) (place : Place) (w left : View) (letter : Letter) → OnOk r (left ≡ after_vote accepts place w letter) → OnErr r (left ≡ at_place place w) → IsAt place left × (left.me ≡ w.me)
 vote-at (Ok told) accepts place w left letter e f =
     let answer = vote_answer accepts place (at_place place w) letter in
-    let kept = kept_after accepts place (at_place place w) letter in
-    (subst (λ v. IsAt place v) (sym e) (IsAt-after_act place answer kept (IsAt-kept_after accepts place (at_place place w) letter (IsAt-at_place place w))),
-     ap (λ (v : View). v.me) e ∙ me-after_act answer kept ∙ me-kept_after accepts place (at_place place w) letter ∙ me-at_place place w)
+    let kept = kept_after accepts place (at_place place w) letter in (
+      subst (λ v. IsAt place v) (sym e) (IsAt-after_act place answer kept (IsAt-kept_after accepts place (at_place place w) letter (IsAt-at_place place w))),
+      ap (λ (v : View). v.me) e ∙ me-after_act answer kept ∙ me-kept_after accepts place (at_place place w) letter ∙ me-at_place place w,
+    )
 vote-at (Err fault) accepts place w left letter e f =
     (subst (λ v. IsAt place v) (sym f) (IsAt-at_place place w), ap (λ (v : View). v.me) f ∙ me-at_place place w)
 

@@ -23,15 +23,15 @@ use Rattle.world_run.specs.Standing.{IsAt}
 pub IsAt-at_place : (place : Place) (w : View) → IsAt place (at_place place w)
 IsAt-at_place place w =
     elim (cases_Bool (is_same_config place w)) [
-      inr e ↦ rw e (record { config = refl; members = refl; height = refl })
-    | inl e ↦
-        let both = and_parts _ _ e in
-        let config = eqb-true w.config place.config.number both.0 in
-        let members = (bytes_eq-Decides w.members place.config.members).0 both.1 in
-        elim (cases_Bool (w.height == place.height)) [
-          inl h ↦ rw (e, h) (record { config = config; members = members; height = eqb-true _ _ h })
-        | inr h ↦ rw (e, h) (record { config = config; members = members; height = refl })
-        ]
+      | inr e ↦ rw e (record { config = refl; members = refl; height = refl })
+      | inl e ↦
+          let both = and_parts _ _ e in
+          let config = eqb-true w.config place.config.number both.0 in
+          let members = (bytes_eq-Decides w.members place.config.members).0 both.1 in
+          elim (cases_Bool (w.height == place.height)) [
+            | inl h ↦ rw (e, h) (record { config = config; members = members; height = eqb-true _ _ h })
+            | inr h ↦ rw (e, h) (record { config = config; members = members; height = refl })
+          ]
     ]
 
 -- who is at the place stays as it is
@@ -44,8 +44,8 @@ at_place-at place w h =
 pub me-at_place : (place : Place) (w : View) → (at_place place w).me ≡ w.me
 me-at_place place w =
     elim (cases_Bool (is_same_config place w)) [
-      inr e ↦ rw e
-    | inl e ↦ elim (cases_Bool (w.height == place.height)) [ inl h ↦ rw (e, h) | inr h ↦ rw (e, h) ]
+      | inr e ↦ rw e
+      | inl e ↦ elim (cases_Bool (w.height == place.height)) [ inl h ↦ rw (e, h) | inr h ↦ rw (e, h) ]
     ]
 
 pub IsAt-after_act : (place : Place) (act : Act) (w : View) → IsAt place w → IsAt place (after_act act w)
@@ -65,8 +65,8 @@ me-after_act (act_of.Nothing r) w = refl
 pub IsAt-kept_after : (accepts : Accepts) (place : Place) (w : View) (letter : Letter) → IsAt place w → IsAt place (kept_after accepts place w letter)
 IsAt-kept_after accepts place w letter h =
     elim (cases_Bool (is_new accepts place w letter)) [
-      inl e ↦ rw e (record { config = h.config; members = h.members; height = h.height })
-    | inr e ↦ rw e h
+      | inl e ↦ rw e (record { config = h.config; members = h.members; height = h.height })
+      | inr e ↦ rw e h
     ]
 
 pub me-kept_after : (accepts : Accepts) (place : Place) (w : View) (letter : Letter) → (kept_after accepts place w letter).me ≡ w.me
@@ -144,8 +144,8 @@ digest_if-accepted place w None d e = cc
 pub preparation_due-accepted : (place : Place) (w : View) (d : List ℕ) → preparation_due place w ≡ Some d → (b : Block) × (w.accepted ≡ Some b)
 preparation_due-accepted place w d e =
     elim (cases_Bool (is_voting place w && is_inside_view w && not w.is_prepared)) [
-      inl t ↦ digest_if-accepted place w w.accepted d (rw t at e)
-    | inr f ↦ (let no : None ≡ Some d = rw f at e in cc)
+      | inl t ↦ digest_if-accepted place w w.accepted d (rw t at e)
+      | inr f ↦ (let no : None ≡ Some d = rw f at e in cc)
     ]
 
 -- neither call touches what was accepted

@@ -327,7 +327,12 @@ impl Node {
     }
 
     /// What a Prepare brings: the act that is due with it.
-    fn on_prepare(&mut self, from: u32, message: &Prepare, outside: &Outside) -> Result<Act, NoMemory>
+    fn on_prepare(
+        &mut self,
+        from: u32,
+        message: &Prepare,
+        outside: &Outside,
+    ) -> Result<Act, NoMemory>
         requires { from ≢ self.old.id }
         ensures makes { IfOk result (λ told. (b : Before) → Stands b self.old outside.now → Makes b (begins core_ways (keys_before b) (core_of self.old) (FromMember (record { from = from; message = message_of.Prepare message.now }))) told self.new outside.now) }
         ensures due { IfOk result (λ told. (b : Before) → Stands b self.old outside.now → IsDue b (begins core_ways (keys_before b) (core_of self.old) (FromMember (record { from = from; message = message_of.Prepare message.now }))) told) }

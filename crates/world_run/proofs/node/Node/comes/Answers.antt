@@ -76,6 +76,6 @@ returns-in-Prepare-clause-makes c =
     let outside = c.args.outside.now in
     IfOk-weaker c.on_prepare.result _ _
     (λ told ensures b h.
-     let P : Message → Type 0 = λ message. Makes b (letter_begins b node outside (record { from = c.args.from; message = message }) h) told c.on_prepare.new.self outside in
-     subst P (sym c.in-Prepare.is) (ensures b h))
+    let P : Message → Type 0 = λ message. Makes b (letter_begins b node outside (record { from = c.args.from; message = message }) h) told c.on_prepare.new.self outside in
+    subst P (sym c.in-Prepare.is) (ensures b h))
     c.on_prepare.ensures.makes

@@ -18,6 +18,6 @@ pub returns-in_default : goal.returns-in_default
 returns-in_default c = record {
   makes = λ b m h d n. subst (λ (x : Making Core). Makes b x c.args.told c.args.self.now c.args.outside.now) (sym (prepared_in-none b m c.args.told c.in_default.not-Prepare d n).0) h;
   due = λ b m h d n.
-    let none = prepared_in-none b m c.args.told c.in_default.not-Prepare d n in
-    subst (λ (x : Making Core). IsDelivery x c.args.told) (sym none.0) none.1;
+      let none = prepared_in-none b m c.args.told c.in_default.not-Prepare d n in
+      subst (λ (x : Making Core). IsDelivery x c.args.told) (sym none.0) none.1;
 }

@@ -12,7 +12,7 @@ returns c =
     let node = c.args.self.now in
     on_ok_weaker c.rounds.result
     (λ ensures b h.
-     let m = own_rule core_ways (tick_of core_ways (node_of node)) (tick_begins b node) in
-     let proposed = c.in_ok-propose.ensures b h in
-     ensures b m (c.in_ok-told.ensures.makes b m proposed) (c.in_ok-told.ensures.due b m proposed))
+    let m = own_rule core_ways (tick_of core_ways (node_of node)) (tick_begins b node) in
+    let proposed = c.in_ok-propose.ensures b h in
+    ensures b m (c.in_ok-told.ensures.makes b m proposed) (c.in_ok-told.ensures.due b m proposed))
     c.rounds.ensures
