@@ -1,5 +1,5 @@
 //! The commands that need no network.
-ghost use Rattle.std.specs.Prelude.{◌≡◌, ◌≢◌, ◌⊎◌, ◌↔◌, [], IsSome, map, string_bytes};
+ghost use Rattle.std.specs.Prelude.{◌≡◌, ◌≢◌, ◌≤◌, ◌⊎◌, ◌↔◌, [], IsSome, map, string_bytes};
 ghost use Rattle.ord_types.specs.Causes.{Rose};
 ghost use Rattle.ord_types.specs.Told.{told, Took, TookFront};
 ghost use Rattle.script_play.specs.Statuses.{IsOwn, fault_number, status_of};
@@ -28,6 +28,8 @@ fn run_world<S: Source, K: Sink>(alloc: Global, source: &mut S, out: &mut K) -> 
     ensures no_other { IsOwn result ⊎ ((result ≡ 6) ⊎ ((result ≡ 7) ⊎ (result ≡ 8))) }
     ensures front { IsSome (S.left source.old) → IsSome (K.content out.old) →
         TookFront (K.content out.old) (K.content out.new) (run_of [] (told (S.left source.old))).text }
+    ensures source_count { S.faults source.old ≤ S.faults source.new }
+    ensures out_count { K.faults out.old ≤ K.faults out.new }
 {
     let mut runner = Runner::new(alloc);
     match play(alloc, &mut runner, source, out) {
@@ -72,9 +74,11 @@ pub fn run_offline<S: Source, K: Sink>(
         ¬ Rose (S.faults source.old) (S.faults source.new) → ¬ Rose (K.faults out.old) (K.faults out.new) →
         (result ≡ status_of (run_of [] (told (S.left source.old))).ending) ⊎ (result ≡ 8) }
 
-    // Whatever comes, a front of the text is written.
+    // Whatever comes, a front of the text is written, and no count of faults falls.
     ensures front { asked (map string_bytes words.now) ≡ asked_for.World → IsSome (S.left source.old) → IsSome (K.content out.old) →
         TookFront (K.content out.old) (K.content out.new) (run_of [] (told (S.left source.old))).text }
+    ensures source_count { S.faults source.old ≤ S.faults source.new }
+    ensures out_count { K.faults out.old ≤ K.faults out.new }
 {
     match judged(words) {
         Asked::World => run_world(alloc, source, out),

@@ -170,6 +170,21 @@ fn endings(rt: HostRuntime) -> Result<(), Fail> {
     Ok(())
 }
 
+/// A line that is too long, and a line too many, give 9.
+#[test]
+fn limits(rt: HostRuntime) -> Result<(), Fail> {
+    for (byte, count, text) in [
+        (b'#', 8_500_001, b"1 limit 8500000\n".as_slice()),
+        (b'\n', 1_000_001, b"1000001 limit 1000000\n"),
+    ] {
+        let script = vec![in rt.alloc(); byte; count]?;
+        let (status, sink) = played(rt.alloc(), script.as_slice(), 0, 0)?;
+        assert_eq!(rt; status, 9);
+        assert_eq!(rt; sink.bytes(), text);
+    }
+    Ok(())
+}
+
 /// A call of the source that fails gives 6, and one of the sink 7.
 #[test]
 fn faults(rt: HostRuntime) -> Result<(), Fail> {
