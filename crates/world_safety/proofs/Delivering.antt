@@ -29,7 +29,7 @@ all_named P f (x ∷ xs) each = step (all_named P f xs (λ m is sig fm. each m (
     step rest (Some sig) e = and_from _ _ (each x (or_left _ _ (eq-eqb x x refl)) sig e) rest
 
 -- a member with a signature is among the signers
-is_signer : (f : ℕ → Option Sig) (m : ℕ) (sig : Sig) (xs : List ℕ) → f m ≡ Some sig → sig.signer ≡ m → is_in m xs ≡ true → is_in m (map (λ (s : Sig). s.signer) (filter_map f xs)) ≡ true
+pub is_signer : (f : ℕ → Option Sig) (m : ℕ) (sig : Sig) (xs : List ℕ) → f m ≡ Some sig → sig.signer ≡ m → is_in m xs ≡ true → is_in m (map (λ (s : Sig). s.signer) (filter_map f xs)) ≡ true
 is_signer f m sig [] fm named is = absurd (cc)
 is_signer f m sig (x ∷ xs) fm named is =
     elim (or_cases (x == m) (is_in m xs) is) [
@@ -45,7 +45,7 @@ is_signer f m sig (x ∷ xs) fm named is =
     more (Some s) h = or_right _ _ h
 
 -- as many members pass a test as have signatures, where each of these passes it
-as_many : (q : ℕ → Bool) (f : ℕ → Option Sig) (xs : List ℕ) → ((m : ℕ) → is_in m xs ≡ true → (sig : Sig) → f m ≡ Some sig → q m ≡ true) → length (filter_map f xs) ≤ how_many q xs
+pub as_many : (q : ℕ → Bool) (f : ℕ → Option Sig) (xs : List ℕ) → ((m : ℕ) → is_in m xs ≡ true → (sig : Sig) → f m ≡ Some sig → q m ≡ true) → length (filter_map f xs) ≤ how_many q xs
 as_many q f [] each = omega arith
 as_many q f (x ∷ xs) each = step (as_many q f xs (λ m is sig fm. each m (or_right _ _ is) sig fm)) (f x) refl
   where
@@ -106,12 +106,12 @@ unfolding value_or
 some_same {x = x} h = ap (value_or x) h
 
 -- what a delivery has that is due
-record Due (place : Place) (w : View) (b : Block) (cert : Cert) : Type 0 where
-  accepted : w.accepted ≡ Some b
-  bft : is_raft place.config ≡ false
-  quorum : nat_le (quorum_of place.config) (length (commits place w (block_hash b))) ≡ true
-  next : is_next_block place b ≡ true
-  cert_is : certificate place w b ≡ cert
+pub record Due (place : Place) (w : View) (b : Block) (cert : Cert) : Type 0 where
+  pub accepted : w.accepted ≡ Some b
+  pub bft : is_raft place.config ≡ false
+  pub quorum : nat_le (quorum_of place.config) (length (commits place w (block_hash b))) ≡ true
+  pub next : is_next_block place b ≡ true
+  pub cert_is : certificate place w b ≡ cert
 
 due_if : (place : Place) (w : View) (b x : Block) (cert : Cert) (t : Bool) → w.accepted ≡ Some x → is_raft place.config ≡ false → (nat_le (quorum_of place.config) (length (commits place w (block_hash x))) && is_next_block place x) ≡ t
     → cond {A = Option (Block × Cert)} t (Some (x, certificate place w x)) None ≡ Some (b, cert) → Due place w b cert
@@ -133,17 +133,17 @@ due_some : (place : Place) (w : View) (b : Block) (cert : Cert) (o : Option Bloc
 due_some place w b cert None at bft h = absurd (none_some h)
 due_some place w b cert (Some x) at bft h = due_if place w b x cert (nat_le (quorum_of place.config) (length (commits place w (block_hash x))) && is_next_block place x) at bft refl h
 
-due_is : (place : Place) (w : View) (b : Block) (cert : Cert) (t : Bool) → is_raft place.config ≡ t → cond t None (delivery_if place w w.accepted) ≡ Some (b, cert) → Due place w b cert
+pub due_is : (place : Place) (w : View) (b : Block) (cert : Cert) (t : Bool) → is_raft place.config ≡ t → cond t None (delivery_if place w w.accepted) ≡ Some (b, cert) → Due place w b cert
 due_is place w b cert true is h = absurd (none_some h)
 due_is place w b cert false is h = due_some place w b cert w.accepted refl is h
 
 -- what a next block has
-record Next (place : Place) (b : Block) : Type 0 where
-  number : b.header.number ≡ place.height
-  rest : (bytes_eq b.header.previous place.last && hashes_fit b) ≡ true
-  lawful : is_lawful place.config b ≡ true
+pub record Next (place : Place) (b : Block) : Type 0 where
+  pub number : b.header.number ≡ place.height
+  pub rest : (bytes_eq b.header.previous place.last && hashes_fit b) ≡ true
+  pub lawful : is_lawful place.config b ≡ true
 
-next_is : (place : Place) (b : Block) → is_next_block place b ≡ true → Next place b
+pub next_is : (place : Place) (b : Block) → is_next_block place b ≡ true → Next place b
 next_is place b h =
     let a = and_parts ((b.header.number == place.height) && bytes_eq b.header.previous place.last && hashes_fit b) (is_lawful place.config b) h in
     let c = and_parts ((b.header.number == place.height) && bytes_eq b.header.previous place.last) (hashes_fit b) a.0 in

@@ -5,8 +5,10 @@ pub mod Fitting
 pub mod Accepting
 pub mod Preparing
 pub mod Delivering
+pub mod Certifying
 pub mod Own
 pub mod Nodes
+pub mod Sealing
 pub mod Placing
 pub mod Makings
 pub mod Worlds

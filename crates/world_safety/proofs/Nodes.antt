@@ -219,7 +219,7 @@ opened su i = record { own = refl; timely = tt; accepted = λ e v s b is. absurd
 
 -- SO ITS PLACE AND ITS VIEW ARE THOSE BY THE HISTORY
 
-all_firsts : (P : Letter → Type 0) (letters : List Letter) → AllByRecursion P letters → AllByRecursion P (firsts letters)
+pub all_firsts : (P : Letter → Type 0) (letters : List Letter) → AllByRecursion P letters → AllByRecursion P (firsts letters)
 all_firsts P [] all = tt
 all_firsts P (m ∷ ms) all = go (list_any (same_slot m) ms) (all_firsts P ms all.1)
   where

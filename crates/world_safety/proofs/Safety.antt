@@ -50,7 +50,7 @@ world_safe number w le is =
     let su = is.setup in
     let good = is.good in
     let here : su ≡ setup_of w = good.first ∙ ap (λ ids. setup_on (first_config ids)) (sym good.members) in
-    let nodes = all_map (NodeIn su w.told) (IsNodeOf su w.told) (λ node p. record { setup = p.setup; id = p.id; facts = p.stands.own }) w.nodes good.nodes in
+    let nodes = all_map (NodeIn su w.told w.seals) (IsNodeOf su w.told) (λ node p. record { setup = p.setup; id = p.id; facts = p.stands.own }) w.nodes good.nodes in
     let agreement : NoCollision su w.told → Agreement su w.told =
     λ apart. runs_agree su w.told good.honest.genesis good.run (all_fit (10000 * number) w.told (omega arith) good.within) apart in
     record {

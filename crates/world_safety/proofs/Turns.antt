@@ -54,7 +54,7 @@ more_leads {W = W} P Q turn more good = go turn.next good
 
 module _ (su : Setup) (number : ℕ) where
   -- AN EVENT
-  event_leads : (most : ℕ) (w : World PastNode History) (node : Node PastNode) (event : Event) → GoodWorld su most w → NodeIn su w.told node → IsGoodEvent su w.told event
+  event_leads : (most : ℕ) (w : World PastNode History) (node : Node PastNode) (event : Event) → GoodWorld su most w → NodeIn su w.told w.seals node → IsGoodEvent su w.told event
       → Leads (GoodWorld su (most + proposals_of event)) (event_turn past_setting number w node event)
   unfolding event_turn
   event_leads most w node event good is brought = go (nat_lt most_entries (length after.network))
@@ -78,7 +78,7 @@ module _ (su : Setup) (number : ℕ) where
   pub tick_leads : (most : ℕ) (w : World PastNode History) (id : ℕ) (o : Option (Node PastNode)) → GoodWorld su most w → node_at id w.nodes ≡ o → Leads (GoodWorld su (most + 1)) (tick_at past_setting number w o)
   tick_leads most w id None good is = world_more su most (most + 1) w (omega arith) good
   tick_leads most w id (Some node) good is =
-      let it = found_node (NodeIn su w.told) (λ node. node.id == id) w.nodes node good.nodes is in
+      let it = found_node (NodeIn su w.told w.seals) (λ node. node.id == id) w.nodes node good.nodes is in
       event_leads most w node (tick_of past_setting.ways node) good it (offer_fits node it.pool)
 
   ticks_lead : (id n most : ℕ) (w : World PastNode History) → GoodWorld su most w → Leads (GoodWorld su (most + n)) (ticks past_setting number id n w)
@@ -102,13 +102,14 @@ module _ (su : Setup) (number : ℕ) where
         actors = good.actors;
         nodes = good.nodes;
         network = all_set (EntryIn w.told) w.network k (record e { came = true }) good.network (record { ground = is.ground; fits = is.fits });
+        certified = good.certified;
       }
 
   delivery_to_leads : (most : ℕ) (e : Entry) (w : World PastNode History) (o : Option (Node PastNode)) → GoodWorld su most w → EntryIn w.told e → node_at e.to w.nodes ≡ o → Leads (GoodWorld su most) (delivery_to past_setting number e w o)
   delivery_to_leads most e w None good rests is = good
   delivery_to_leads most e w (Some node) good rests is =
       more_leads (GoodWorld su (most + 0)) (GoodWorld su most) (event_turn past_setting number w node (letter_from e)) (λ w good. world_more su (most + 0) most w (omega arith) good)
-      (event_leads most w node (letter_from e) good (found_node (NodeIn su w.told) (λ node. node.id == e.to) w.nodes node good.nodes is) (record { rests = or_right _ _ rests.ground; fits = rests.fits }))
+      (event_leads most w node (letter_from e) good (found_node (NodeIn su w.told w.seals) (λ node. node.id == e.to) w.nodes node good.nodes is) (record { rests = or_right _ _ rests.ground; fits = rests.fits }))
 
   pub delivery_leads : (most : ℕ) (k : ℕ) (e : Entry) (w : World PastNode History) → GoodWorld su most w → EntryIn w.told e → Leads (GoodWorld su most) (delivery past_setting number k e w)
   delivery_leads most k e w good rests = delivery_to_leads most e (marked k e w) (node_at e.to w.nodes) (marked_good most k e w good rests) rests refl
@@ -163,7 +164,7 @@ module _ (su : Setup) (number : ℕ) where
   pool_fits pool r (Malformed at) fits one = fits
   pool_fits pool r KnownPending fits one = fits
 
-  pub submit_leads : (most : ℕ) (w : World PastNode History) (node : Node PastNode) (r : Request) → RequestFits r → GoodWorld su most w → NodeIn su w.told node → Leads (GoodWorld su most) (submit_turn number w node r)
+  pub submit_leads : (most : ℕ) (w : World PastNode History) (node : Node PastNode) (r : Request) → RequestFits r → GoodWorld su most w → NodeIn su w.told w.seals node → Leads (GoodWorld su most) (submit_turn number w node r)
   submit_leads most w node r fits good is =
       let new = submitted node r in
       record {
@@ -174,16 +175,17 @@ module _ (su : Setup) (number : ℕ) where
         within = good.within;
         members = with_ids new w.nodes ∙ good.members;
         actors = good.actors;
-        nodes = with_new su w.told w.told new (λ other not_it before. before)
-            (record { setup = is.setup; id = is.id; member = is.member; stands = is.stands; pool = pool_fits node.pool r (answer node.pool r) is.pool fits }) w.nodes (nodes_apart su most w good) good.nodes;
+        nodes = with_new (NodeIn su w.told w.seals) (NodeIn su w.told w.seals) new (λ other not_it before. before)
+            (record { setup = is.setup; id = is.id; member = is.member; stands = is.stands; pool = pool_fits node.pool r (answer node.pool r) is.pool fits; sealed = is.sealed }) w.nodes (nodes_apart su most w good) good.nodes;
         network = good.network;
+        certified = good.certified;
       }
 
   -- A COMMAND
   node_leads : (most more : ℕ) (id : ℕ) (w : World PastNode History) (o : Option (Node PastNode)) (turn : Node PastNode → Turn (World PastNode History)) → most ≤ more → GoodWorld su most w → node_at id w.nodes ≡ o
-      → ((node : Node PastNode) → NodeIn su w.told node → Leads (GoodWorld su more) (turn node)) → Leads (GoodWorld su more) (at_node number w o turn)
+      → ((node : Node PastNode) → NodeIn su w.told w.seals node → Leads (GoodWorld su more) (turn node)) → Leads (GoodWorld su more) (at_node number w o turn)
   node_leads most more id w None turn le good is each = world_more su most more w le good
-  node_leads most more id w (Some node) turn le good is each = each node (found_node (NodeIn su w.told) (λ node. node.id == id) w.nodes node good.nodes is)
+  node_leads most more id w (Some node) turn le good is each = each node (found_node (NodeIn su w.told w.seals) (λ node. node.id == id) w.nodes node good.nodes is)
 
   still : (most more : ℕ) (turn : Turn (World PastNode History)) → most ≤ more → Leads (GoodWorld su most) turn → Leads (GoodWorld su more) turn
   still most more turn le good = more_leads (GoodWorld su most) (GoodWorld su more) turn (λ w good. world_more su most more w le good) good
@@ -230,9 +232,10 @@ first_good most members are =
       within = tt;
       members = same_ids c members;
       actors = tt;
-      nodes = all_mapped (NodeIn su []) node members
-          (all_map (λ id. is_in id members ≡ true) (λ id. NodeIn su [] (node id)) (λ id is. record { setup = refl; id = refl; member = is; stands = opened su id; pool = All-nil RequestFits }) members (members_in members members (λ id is. is)));
+      nodes = all_mapped (NodeIn su [] []) node members
+          (all_map (λ id. is_in id members ≡ true) (λ id. NodeIn su [] [] (node id)) (λ id is. record { setup = refl; id = refl; member = is; stands = opened su id; pool = All-nil RequestFits; sealed = record { config = refl; letters = tt } }) members (members_in members members (λ id is. is)));
       network = tt;
+      certified = tt;
     }
 
 -- a good world of some setup before the line of this number, where there is a world

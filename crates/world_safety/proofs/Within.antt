@@ -1,9 +1,11 @@
 -- All worlds of every script are safe, those within its lines too.
-use Rattle.std.proofs.Common.{◌≡◌, ℕ, zero, suc, ◌+◌, ◌-◌, ◌*◌, ◌≤◌, Bool, true, false, List, [], ◌∷◌, length, cond, refl, Option, Some, None, Result, Ok, Err, arith}
+use Rattle.std.proofs.Common.{◌≡◌, ℕ, zero, suc, ◌+◌, ◌-◌, ◌*◌, ◌≤◌, Bool, true, false, List, [], ◌∷◌, length, cond, refl, sym, subst, ap, Option, Some, None, Result, Ok, Err, arith}
 use Rattle.std.specs.Prelude.{◌==◌, IfOk, nat_lt, position, slice_get}
 use Rattle.std.specs.List.{AllByRecursion}
 use Rattle.std.proofs.lemmas.Bool.{ltb-false, or_right}
+use Rattle.safety_model.specs.Blocks.{Config}
 use Rattle.safety_model.specs.State.{Setup}
+use Rattle.signer_edge.specs.Seals.{is_sealed}
 use Rattle.line_flow.specs.Lines.{lines}
 use Rattle.script.specs.Commands.{IsWellFormed}
 use Rattle.script.specs.Grammar.{meaning}
@@ -22,11 +24,12 @@ use Rattle.world_model.specs.Turns.{delivery, first_config, most_flushed, ordina
 use Rattle.world_model.specs.Worlds.{Entry, Node, entry, is_waiting, letter_from, marked, node_at, tick_of}
 use Rattle.world_safety.specs.Safe.{IsSafe, setup_on}
 use Rattle.world_safety.specs.Telling.{AllWorldsAreSafe}
+use Rattle.world_safety.specs.Certified.{AllWorldsAreCertified, IsCertified, IsCertifiedFact, IsCertifiedIn}
 use Rattle.world_safety.specs.Within.{PastWorld, after_delivery, after_letter, after_submit, after_tick, in_deliver, in_deliveries, in_flush, in_flushes, in_ticks, where_node, worlds_in, worlds_in_line, worlds_in_lines, worlds_in_turn, worlds_said}
 use Rattle.world_safety.proofs.Lines.{IsGoodAt, line_keeps}
 use Rattle.world_safety.proofs.Lists.{all_append, all_map, all_mapped}
 use Rattle.world_safety.proofs.Safety.{good_safe}
-use Rattle.world_safety.proofs.Turns.{IsGoodIn, commands_keep, delivery_leads, entry_in, first_good, marked_good, offer_fits, submit_leads, tick_leads}
+use Rattle.world_safety.proofs.Turns.{IsGood, IsGoodIn, commands_keep, delivery_leads, entry_in, first_good, marked_good, offer_fits, submit_leads, tick_leads}
 use Rattle.world_safety.proofs.Worlds.{EntryIn, GoodWorld, NodeIn, event_keeps, found_entry, found_node, world_more}
 
 -- the worlds behind a turn
@@ -39,7 +42,7 @@ module _ (su : Setup) (number : ℕ) where
   tick_good : (most : ℕ) (w : PastWorld) (id : ℕ) (o : Option (Node PastNode)) → GoodWorld su most w → node_at id w.nodes ≡ o → GoodWorld su (most + 1) (after_tick w o)
   tick_good most w id None good is = world_more su most (most + 1) w (omega arith) good
   tick_good most w id (Some node) good is =
-      let it = found_node (NodeIn su w.told) (λ node. node.id == id) w.nodes node good.nodes is in
+      let it = found_node (NodeIn su w.told w.seals) (λ node. node.id == id) w.nodes node good.nodes is in
       event_keeps su most w node (tick_of past_setting.ways node) good it (offer_fits su number node it.pool)
 
   ticks_good : (id n most : ℕ) (w : PastWorld) → GoodWorld su most w → AllByRecursion (GoodWorld su (most + n)) (in_ticks number id n w)
@@ -57,7 +60,7 @@ module _ (su : Setup) (number : ℕ) where
   letter_good most e w None good rests is = good
   letter_good most e w (Some node) good rests is =
       world_more su (most + 0) most (after_letter e w (Some node)) (omega arith)
-      (event_keeps su most w node (letter_from e) good (found_node (NodeIn su w.told) (λ node. node.id == e.to) w.nodes node good.nodes is) (record { rests = or_right _ _ rests.ground; fits = rests.fits }))
+      (event_keeps su most w node (letter_from e) good (found_node (NodeIn su w.told w.seals) (λ node. node.id == e.to) w.nodes node good.nodes is) (record { rests = or_right _ _ rests.ground; fits = rests.fits }))
 
   delivery_good : (most : ℕ) (k : ℕ) (e : Entry) (w : PastWorld) → GoodWorld su most w → EntryIn w.told e → GoodWorld su most (after_delivery k e w)
   delivery_good most k e w good rests = letter_good most e (marked k e w) (node_at e.to w.nodes) (marked_good su number most k e w good rests) rests refl
@@ -108,9 +111,9 @@ module _ (su : Setup) (number : ℕ) where
 
   -- A COMMAND
   where_good : (most more : ℕ) (id : ℕ) (w : PastWorld) (o : Option (Node PastNode)) (worlds : Node PastNode → List PastWorld) → GoodWorld su most w → node_at id w.nodes ≡ o
-      → ((node : Node PastNode) → NodeIn su w.told node → AllByRecursion (GoodWorld su more) (worlds node)) → AllByRecursion (GoodWorld su more) (where_node o worlds)
+      → ((node : Node PastNode) → NodeIn su w.told w.seals node → AllByRecursion (GoodWorld su more) (worlds node)) → AllByRecursion (GoodWorld su more) (where_node o worlds)
   where_good most more id w None worlds good is each = tt
-  where_good most more id w (Some node) worlds good is each = each node (found_node (NodeIn su w.told) (λ node. node.id == id) w.nodes node good.nodes is)
+  where_good most more id w (Some node) worlds good is each = each node (found_node (NodeIn su w.told w.seals) (λ node. node.id == id) w.nodes node good.nodes is)
 
   all_more : (most more : ℕ) (ws : List PastWorld) → most ≤ more → AllByRecursion (GoodWorld su most) ws → AllByRecursion (GoodWorld su more) ws
   all_more most more ws le all = all_map (GoodWorld su most) (GoodWorld su more) (λ w good. world_more su most more w le good) ws all
@@ -181,3 +184,19 @@ lines_good (line ∷ more) o number good =
 pub all_worlds_safe : AllWorldsAreSafe
 all_worlds_safe script =
     (tt, all_map (IsGoodAt IsGoodIn) IsSafe (λ o is. good_safe o is.number is.within is.good) (worlds_in_lines (lines script) None 1) (lines_good (lines script) None 1 tt))
+
+-- what was delivered is certified
+
+world_certified : (number : ℕ) (w : PastWorld) → IsGood number w → IsCertified w
+world_certified number w is =
+    let good = is.good in
+    subst (λ members. AllByRecursion (IsCertifiedFact (is_sealed w.seals) (first_config members)) w.told) (sym good.members)
+    (subst (λ (c : Config). AllByRecursion (IsCertifiedFact (is_sealed w.seals) c) w.told) (ap (λ (su : Setup). su.config) good.first) good.certified)
+
+good_certified : (o : Option PastWorld) (number : ℕ) → IsGoodIn number o → IsCertifiedIn o
+good_certified None number good = tt
+good_certified (Some w) number good = world_certified number w good
+
+pub all_worlds_certified : AllWorldsAreCertified
+all_worlds_certified script =
+    (tt, all_map (IsGoodAt IsGoodIn) IsCertifiedIn (λ o is. good_certified o is.number is.good) (worlds_in_lines (lines script) None 1) (lines_good (lines script) None 1 tt))

@@ -13,6 +13,10 @@ use Rattle.safety_model.specs.State.{Setup}
 use Rattle.safety_model.specs.Rules.{IsRun, actor}
 use Rattle.safety_model.specs.Safety.{RequestFits}
 use Rattle.script.specs.Commands.{AreIds}
+use Rattle.signer_edge.specs.Seals.{is_sealed}
+use Rattle.signer_edge.specs.Signing.{KeepsAccepted}
+use Rattle.signer_edge.specs.declared.seals.Seal.{Seal}
+use Rattle.signer_edge.proofs.SealFacts.{is_sealed-grown}
 use Rattle.node_model.specs.Letters.{Message}
 use Rattle.node_model.specs.Past.{Past}
 use Rattle.node_model.specs.Keeping.{PastNode}
@@ -20,7 +24,8 @@ use Rattle.node_model.specs.Steps.{Event, Post}
 use Rattle.world_model.specs.Histories.{past_setting}
 use Rattle.world_model.specs.Pools.{has_id}
 use Rattle.world_model.specs.Turns.{first_config}
-use Rattle.world_model.specs.Worlds.{Entry, Node, World, keys_of, making, node_after, requests_in, sent_by, with_node, world_after}
+use Rattle.world_model.specs.Worlds.{Entry, Node, World, keys_of, making, node_after, requests_in, seals_of, sent_by, with_node, world_after}
+use Rattle.world_safety.specs.Certified.{IsCertifiedFact}
 use Rattle.world_safety.specs.Resting.{has_ground}
 use Rattle.world_safety.specs.Safe.{ids_of, setup_on}
 use Rattle.world_safety.proofs.Lists.{all_append, all_map, all_mapped, all_reverse}
@@ -28,14 +33,16 @@ use Rattle.world_safety.proofs.Fits.{FactIn}
 use Rattle.world_safety.proofs.Makings.{IsGoodMessage, IsGoodPost, MakingStands, next_stands, proposals_of, told, within_more}
 use Rattle.world_safety.proofs.Placing.{IsHonest}
 use Rattle.world_safety.proofs.Nodes.{IsGoodEvent, NodeStands, ground_more, other_did}
+use Rattle.world_safety.proofs.Sealing.{IsSealedMaking, IsSealedNode, facts_certified, node_sealed, step_sealed}
 
--- a node of the world, where these are all facts
-pub record NodeIn (su : Setup) (h : History) (node : Node PastNode) : Type 0 where
+-- a node of the world, where these are all facts, and this is the box of seals
+pub record NodeIn (su : Setup) (h : History) (box : List Seal) (node : Node PastNode) : Type 0 where
   pub setup : node.state.setup ≡ su
   pub id : node.state.id ≡ node.id
   pub member : is_in node.id su.config.members ≡ true
   pub stands : NodeStands su h node.id node.state.past
   pub pool : All RequestFits node.pool
+  pub sealed : IsSealedNode su.config (is_sealed box) node.state
 
 -- an entry rests on a fact of its sender, and what it proposes fits
 abbrev pub EntryIn : History → Entry → Type 0
@@ -55,8 +62,9 @@ pub record GoodWorld (su : Setup) (most : ℕ) (w : World PastNode History) : Ty
   pub within : AllByRecursion (FactIn most) w.told
   pub members : ids_of w.nodes ≡ su.config.members
   pub actors : AllByRecursion (λ f. is_in (actor f) su.config.members ≡ true) w.told
-  pub nodes : AllByRecursion (NodeIn su w.told) w.nodes
+  pub nodes : AllByRecursion (NodeIn su w.told w.seals) w.nodes
   pub network : AllByRecursion (EntryIn w.told) w.network
+  pub certified : AllByRecursion (IsCertifiedFact (is_sealed w.seals) su.config) w.told
 
 -- MEMBERS IN ASCENDING ORDER ARE APART
 
@@ -99,23 +107,23 @@ with_ids new (node ∷ nodes) = go (node.id == new.id) refl (with_ids new nodes)
     go true is rest = ap (λ id. id ∷ ids_of nodes) (sym (eqb-true node.id new.id is))
     go false is rest = ap (λ ids. node.id ∷ ids) rest
 
-keep_rest : (su : Setup) (h g : History) (id : ℕ) → ((other : Node PastNode) → (other.id == id) ≡ false → NodeIn su h other → NodeIn su g other)
-    → (nodes : List (Node PastNode)) → AllByRecursion (λ y. (y == id) ≡ false) (ids_of nodes) → AllByRecursion (NodeIn su h) nodes → AllByRecursion (NodeIn su g) nodes
-keep_rest su h g id keep [] apart all = tt
-keep_rest su h g id keep (node ∷ nodes) apart all = (keep node apart.0 all.0, keep_rest su h g id keep nodes apart.1 all.1)
+keep_rest : (P Q : Node PastNode → Type 0) (id : ℕ) → ((other : Node PastNode) → (other.id == id) ≡ false → P other → Q other)
+    → (nodes : List (Node PastNode)) → AllByRecursion (λ y. (y == id) ≡ false) (ids_of nodes) → AllByRecursion P nodes → AllByRecursion Q nodes
+keep_rest P Q id keep [] apart all = tt
+keep_rest P Q id keep (node ∷ nodes) apart all = (keep node apart.0 all.0, keep_rest P Q id keep nodes apart.1 all.1)
 
-pub with_new : (su : Setup) (h g : History) (new : Node PastNode) → ((other : Node PastNode) → (other.id == new.id) ≡ false → NodeIn su h other → NodeIn su g other) → NodeIn su g new
-    → (nodes : List (Node PastNode)) → Apart (ids_of nodes) → AllByRecursion (NodeIn su h) nodes → AllByRecursion (NodeIn su g) (with_node new nodes)
-with_new su h g new keep good [] apart all = tt
-with_new su h g new keep good (node ∷ nodes) apart all = go (node.id == new.id) refl (with_new su h g new keep good nodes apart.1 all.1)
+pub with_new : (P Q : Node PastNode → Type 0) (new : Node PastNode) → ((other : Node PastNode) → (other.id == new.id) ≡ false → P other → Q other) → Q new
+    → (nodes : List (Node PastNode)) → Apart (ids_of nodes) → AllByRecursion P nodes → AllByRecursion Q (with_node new nodes)
+with_new P Q new keep good [] apart all = tt
+with_new P Q new keep good (node ∷ nodes) apart all = go (node.id == new.id) refl (with_new P Q new keep good nodes apart.1 all.1)
   where
-    go : (t : Bool) → (node.id == new.id) ≡ t → AllByRecursion (NodeIn su g) (with_node new nodes) → AllByRecursion (NodeIn su g) (cond t (new ∷ nodes) (node ∷ with_node new nodes))
-    go true is rest = (good, keep_rest su h g new.id keep nodes (subst (λ id. AllByRecursion (λ y. (y == id) ≡ false) (ids_of nodes)) (eqb-true node.id new.id is) apart.0) all.1)
+    go : (t : Bool) → (node.id == new.id) ≡ t → AllByRecursion Q (with_node new nodes) → AllByRecursion Q (cond t (new ∷ nodes) (node ∷ with_node new nodes))
+    go true is rest = (good, keep_rest P Q new.id keep nodes (subst (λ id. AllByRecursion (λ y. (y == id) ≡ false) (ids_of nodes)) (eqb-true node.id new.id is) apart.0) all.1)
     go false is rest = (keep node is all.0, rest)
 
 -- AN EVENT
 
-pub event_keeps : (su : Setup) (most : ℕ) (w : World PastNode History) (node : Node PastNode) (event : Event) → GoodWorld su most w → NodeIn su w.told node → IsGoodEvent su w.told event
+pub event_keeps : (su : Setup) (most : ℕ) (w : World PastNode History) (node : Node PastNode) (event : Event) → GoodWorld su most w → NodeIn su w.told w.seals node → IsGoodEvent su w.told event
     → GoodWorld su (most + proposals_of event) (world_after past_setting w node (making past_setting w node event))
 event_keeps su most w node event good is brought =
     let h = w.told in
@@ -131,6 +139,9 @@ event_keeps su most w node event good is brought =
     let new = node_after node m in
     let sent = all_mapped (EntryIn g) (λ (post : Post). record { from = i; to = post.to; message = post.message; came = false }) m.posts posts in
     let delivered = flat_map requests_in m.facts in
+    let box = w.seals ++ seals_of i m.signed in
+    let grown : KeepsAccepted (is_sealed w.seals) (is_sealed box) = is_sealed-grown w.seals (seals_of i m.signed) in
+    let sealed : IsSealedMaking su.config (keys_of w.seals i) m = step_sealed su.config w.seals i node.state event is.sealed in
     record {
       first = good.first;
       ids = good.ids;
@@ -140,11 +151,21 @@ event_keeps su most w node event good is brought =
       members = with_ids new w.nodes ∙ good.members;
       actors = all_append (λ f. is_in (actor f) su.config.members ≡ true) (reverse m.facts) h
           (all_map (λ f. (actor f == i) ≡ true) (λ f. is_in (actor f) su.config.members ≡ true) (λ f mine. subst (λ id. is_in id su.config.members ≡ true) (sym (eqb-true (actor f) i mine)) is.member) (reverse m.facts) acts) good.actors;
-      nodes = with_new su h g new
-          (λ other not_it before. record { setup = before.setup; id = before.id; member = before.member; stands = other_over su h i other.id other.state.past (reverse m.facts) acts not_it before.stands; pool = before.pool })
-          (record { setup = st.setup; id = st.id; member = is.member; stands = mine; pool = All-filter (λ r. not (has_id r.id delivered)) RequestFits node.pool is.pool }) w.nodes (nodes_apart su most w good) good.nodes;
+      nodes = with_new (NodeIn su h w.seals) (NodeIn su g box) new
+          (λ other not_it before. record {
+            setup = before.setup;
+            id = before.id;
+            member = before.member;
+            stands = other_over su h i other.id other.state.past (reverse m.facts) acts not_it before.stands;
+            pool = before.pool;
+            sealed = node_sealed (is_sealed w.seals) (is_sealed box) grown su.config other.state before.sealed;
+          })
+          (record { setup = st.setup; id = st.id; member = is.member; stands = mine; pool = All-filter (λ r. not (has_id r.id delivered)) RequestFits node.pool is.pool; sealed = sealed.node })
+          w.nodes (nodes_apart su most w good) good.nodes;
       network = all_append (EntryIn g) w.network (sent_by i m.posts)
           (all_map (EntryIn h) (EntryIn g) (λ e p. record { ground = ground_over h (reverse m.facts) e.from e.message p.ground; fits = p.fits }) w.network good.network) sent;
+      certified = all_append (IsCertifiedFact (is_sealed box) su.config) (reverse m.facts) h (all_reverse (IsCertifiedFact (is_sealed box) su.config) m.facts sealed.facts)
+          (facts_certified (is_sealed w.seals) (is_sealed box) grown su.config h good.certified);
     }
 
 -- more may have been proposed
@@ -160,6 +181,7 @@ world_more su most more w le good =
       actors = good.actors;
       nodes = good.nodes;
       network = good.network;
+      certified = good.certified;
     }
 
 -- WHAT IS FOUND

@@ -2,3 +2,4 @@ pub mod Resting
 pub mod Safe
 pub mod Within
 pub mod Telling
+pub mod Certified
