@@ -5,6 +5,7 @@ ghost use Rattle.ord_types.specs.Told.{told, Took, TookFront};
 ghost use Rattle.script_play.specs.Statuses.{IsOwn, fault_number, status_of};
 ghost use Rattle.std.specs.List.{AllByRecursion};
 ghost use Rattle.world_model.specs.Histories.{run_of};
+ghost use Rattle.world_safety.specs.Certified.{IsCertifiedIn};
 ghost use Rattle.world_safety.specs.Safe.{IsSafe};
 ghost use Rattle.world_safety.specs.Within.{all_worlds_of};
 ghost use Rattle.orderer.specs.Words.{asked};
@@ -63,6 +64,9 @@ pub fn run_offline<S: Source, K: Sink>(
     // message rests on what its sender did, and, where no two texts collide, the ledgers agree.
     ensures safe { asked (map string_bytes words.now) ≡ asked_for.World → IsSome (S.left source.old) →
         AllByRecursion IsSafe (all_worlds_of [] (told (S.left source.old))) }
+    // Each delivered block has a certificate: a quorum's signatures, of one view, each of them accepted.
+    ensures certified { asked (map string_bytes words.now) ≡ asked_for.World → IsSome (S.left source.old) →
+        AllByRecursion IsCertifiedIn (all_worlds_of [] (told (S.left source.old))) }
 
     // 6, 7 and 8 come only after a fault of the source, of the sink, and for want of memory.
     ensures read_fault { result ≡ 6 → Rose (S.faults source.old) (S.faults source.new) }
