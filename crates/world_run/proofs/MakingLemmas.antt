@@ -1,6 +1,6 @@
 -- What a call of a node adds to the step so far.
-use Rattle.std.proofs.Common.{◌≡◌, ℕ, ◌+◌, Bool, true, false, ◌&&◌, ◌||◌, ◌==◌, not, cond, List, [], ◌∷◌, ◌++◌, length, map, Option, Some, None, Result, Ok, Err, IfOk, OnOk, OnErr, refl, sym, ap, subst, ◌∙◌, ◌⊎◌, inl, inr, append_assoc, arith, string_bytes, Vec, Global}
-use Rattle.std.specs.List.{filter, flat_map, list_any}
+use Rattle.std.proofs.Common.{◌≡◌, ℕ, true, false, ◌||◌, ◌==◌, List, [], ◌∷◌, ◌++◌, map, Option, Some, None, Result, Ok, Err, IfOk, OnOk, OnErr, refl, sym, ap, subst, ◌∙◌, inl, inr, append_assoc, arith, string_bytes, Vec, Global}
+use Rattle.std.specs.List.{flat_map}
 use Rattle.std.proofs.lemmas.Bool.{cases_Bool, ne_eqb, eq-eqb}
 use Rattle.std.proofs.lemmas.List.{append-nil, map-append}
 use Rattle.std.proofs.lemmas.List.Concat.{flat_map-append}
@@ -11,7 +11,6 @@ use Rattle.ord_types.specs.declared.values.Proof.TheVariants as proof_of
 use Rattle.ord_types.specs.declared.values.Sig.{Sig}
 use Rattle.ord_types.specs.declared.values.ReqId.{ReqId}
 use Rattle.safety_model.specs.Blocks.{Block, Request}
-use Rattle.safety_model.specs.declared.fact.Fact.{Fact}
 use Rattle.safety_model.specs.declared.fact.Fact.TheVariants as fact_of
 use Rattle.signer_edge.specs.Accepts.{Accepts}
 use Rattle.signer_edge.specs.Seals.{Seat, is_sealed, next_sig, with_seal}
@@ -23,21 +22,21 @@ use Rattle.node_model.specs.Letters.{Commit, Message}
 use Rattle.node_model.specs.declared.letter.Letter.{Letter}
 use Rattle.node_model.specs.declared.act.Act.{Act}
 use Rattle.node_model.specs.declared.act.Act.TheVariants as act_of
-use Rattle.node_model.specs.Acts.{View, accept_act, acceptance_due, carried_cert, deliver_act, delivery_due, due, may_propose, preparation_due, proposed}
+use Rattle.node_model.specs.Acts.{View, accept_act, carried_cert, deliver_act, due, may_propose, proposed}
 use Rattle.node_model.specs.Answers.{act_or, after_act, after_due, after_propose, after_vote, at_place, due_answer, kept_after, propose_answer, reason_or, vote_answer}
 use Rattle.node_model.specs.Cores.{Core, core_comes, core_ways, next_place}
-use Rattle.node_model.specs.Steps.{Event, FromMember, Keys, Making, Post, Tick, accept_round, begins, commit_message, makes_accepted, makes_delivered, makes_prepared, next, own_rule, prepare_message, prepare_round, preprepare_message, propose_round, rounds, to_all, votes}
+use Rattle.node_model.specs.Steps.{FromMember, Making, Post, begins, commit_message, makes_accepted, makes_delivered, makes_prepared, next, own_rule, prepare_message, preprepare_message, propose_round, to_all}
 use Rattle.world_model.specs.Pools.{has_id, offer, settled}
 use Rattle.world_model.specs.Texts.{block_text, fact_text}
-use Rattle.world_model.specs.Worlds.{Entry, keys_of, offer_to, requests_in, seals_of, sent_by, tick_of}
+use Rattle.world_model.specs.Worlds.{Entry, offer_to, requests_in, seals_of, sent_by, tick_of}
 use Rattle.world_run.specs.Entries.{entry_of}
-use Rattle.world_run.specs.Making.{Before, HasNoneToAccept, IsDelivery, IsDue, Makes, Stands, accepted_in, accepts_in, act_in, keys_before, prepared_in}
+use Rattle.world_run.specs.Making.{Before, IsDue, Makes, Stands, accepts_in, act_in, keys_before}
 use Rattle.world_run.specs.Nodes.{core_of, node_of}
 use Rattle.world_run.specs.Standing.{IsAt}
 use Rattle.world_run.specs.declared.network.Entry as entries
 use Rattle.world_run.specs.declared.node.Node.{Node}
 use Rattle.world_run.specs.declared.node.Outside.{Outside}
-use Rattle.world_run.proofs.ViewLemmas.{IsAt-after_act, IsAt-at_place, IsAt-kept_after, acceptance_due-accepted, accepted-kept_after, act_in-due_answer, act_in-vote_answer, at_place-at, is_prepared-kept_after, me-after_act, me-at_place, me-kept_after, preparation_due-accepted, preparation_due-prepared}
+use Rattle.world_run.proofs.ViewLemmas.{IsAt-after_act, IsAt-at_place, IsAt-kept_after, act_in-due_answer, act_in-vote_answer, at_place-at, me-after_act, me-at_place, me-kept_after}
 
 pub IfOk-with : {T E : Type 0} (r : Result T E) (P S : T → Type 0) (Q : Type 0) → ((x : T) → P x → Q → S x) → IfOk r P → OnOk r Q → IfOk r S
 IfOk-with (Ok x) P S Q f p q = f x p q

@@ -1,12 +1,12 @@
 -- The votes and deliveries of a step, in the order in which they are told.
-use Rattle.std.proofs.Common.{◌≡◌, ℕ, Bool, true, false, List, [], ◌∷◌, ◌++◌, Option, Some, None, refl, sym, ap, subst, ◌∙◌, ◌⊎◌, inl, inr}
+use Rattle.std.proofs.Common.{◌≡◌, ℕ, List, [], Option, Some, None, refl, sym, ap, subst, ◌∙◌}
 use Rattle.ord_types.specs.declared.values.Cert.{Cert}
 use Rattle.safety_model.specs.Blocks.{Block}
 use Rattle.bft_wire.specs.declared.message.Message.TheVariants as message_of
 use Rattle.node_model.specs.declared.letter.Letter.{Letter}
 use Rattle.node_model.specs.declared.act.Act.{Act}
 use Rattle.node_model.specs.declared.act.Act.TheVariants as act_of
-use Rattle.node_model.specs.Acts.{View, accept_act, acceptance_due, deliver_act, delivery_due, due, first_of, preparation_due, prepare_act}
+use Rattle.node_model.specs.Acts.{View, accept_act, acceptance_due, deliver_act, delivery_due, first_of, preparation_due, prepare_act}
 use Rattle.node_model.specs.Answers.{after_act}
 use Rattle.node_model.specs.Cores.{Core, core_ways}
 use Rattle.node_model.specs.Steps.{Making, accept_round, commit_message, deliver_round, makes_accepted, makes_delivered, makes_prepared, prepare_round, rounds, votes}

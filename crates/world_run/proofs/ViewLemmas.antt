@@ -1,7 +1,7 @@
 -- What the calls on a view answer and leave, where the view is at the place.
-use Rattle.std.proofs.Common.{◌≡◌, ℕ, ◌+◌, ◌≤◌, Bool, true, false, ◌&&◌, ◌==◌, not, cond, List, [], ◌∷◌, length, Option, Some, None, refl, sym, ap, subst, ◌∙◌, ◌⊎◌, inl, inr, arith, is_none}
+use Rattle.std.proofs.Common.{◌≡◌, ℕ, ◌≤◌, Bool, true, false, ◌&&◌, ◌==◌, not, List, [], ◌∷◌, length, Option, Some, None, refl, sym, ap, subst, ◌∙◌, inl, inr, arith, is_none}
 use Rattle.std.specs.Str.{bytes_eq}
-use Rattle.std.proofs.lemmas.Bool.{cases_Bool, and_parts, and_from, and_left, and_right, eqb-true, eq-eqb}
+use Rattle.std.proofs.lemmas.Bool.{cases_Bool, and_parts, and_from, and_right, eqb-true, eq-eqb}
 use Rattle.std.proofs.lemmas.Slice.Eq.{bytes_eq-Decides}
 use Rattle.ord_types.specs.declared.values.Place.{Place}
 use Rattle.ord_types.specs.declared.values.Cert.{Cert}
@@ -13,8 +13,8 @@ use Rattle.node_model.specs.Letters.{Prepare}
 use Rattle.node_model.specs.declared.letter.Letter.{Letter}
 use Rattle.node_model.specs.declared.act.Act.{Act}
 use Rattle.node_model.specs.declared.act.Act.TheVariants as act_of
-use Rattle.node_model.specs.Acts.{View, accept_act, acceptance_due, block_if, deliver_act, delivery_due, digest_if, due, first_of, is_inside_view, is_voting, kept_proposal, preparation_due, prepare_act}
-use Rattle.node_model.specs.Answers.{accepts_nothing, act_or, after_act, after_prepare, at_place, due_answer, fresh, is_new, is_same_config, keep, kept_after, kept_or, prepare_answer, raised, reason_or, unplaced, vote_answer}
+use Rattle.node_model.specs.Acts.{View, accept_act, acceptance_due, deliver_act, delivery_due, digest_if, due, first_of, is_inside_view, is_voting, preparation_due, prepare_act}
+use Rattle.node_model.specs.Answers.{accepts_nothing, act_or, after_act, after_prepare, at_place, due_answer, fresh, is_new, is_same_config, kept_after, kept_or, prepare_answer, reason_or, unplaced, vote_answer}
 use Rattle.world_run.specs.Making.{act_in}
 use Rattle.world_run.specs.Standing.{IsAt}
 

@@ -1,5 +1,5 @@
 -- The whole text is a front of itself.
-use Rattle.std.proofs.Common.{sym, ap, ◌∙◌, [], List, ℕ, None, Option, ◌≡◌, subst}
+use Rattle.std.proofs.Common.{sym, ap, [], List, ℕ, Option, subst}
 use Rattle.std.proofs.lemmas.List.{append-nil}
 use Rattle.ord_types.specs.Told.{told, Took}
 use Rattle.script_play.specs.Runs.{Run, script_run}

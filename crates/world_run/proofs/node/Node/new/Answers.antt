@@ -2,7 +2,7 @@ use Rattle.std.proofs.Common.{◌≡◌, ap, sym, subst, ◌∙◌}
 use Rattle.ord_types.specs.declared.values.Place.{Place}
 use Rattle.node_model.specs.Acts.{View}
 use Rattle.node_model.specs.Answers.{at_place, fresh}
-use Rattle.node_model.specs.Cores.{Core, first_place}
+use Rattle.node_model.specs.Cores.{Core}
 use Rattle.world_run.specs.Standing.{IsAt}
 use Rattle.world_run.proofs.ViewLemmas.{IsAt-at_place, at_place-unplaced, me-at_place}
 use Rattle.world_run.proofs.node.Node.new.Goals as goal

@@ -1,4 +1,4 @@
-use Rattle.std.proofs.Common.{◌≡◌, ◌++◌, ap, map, refl, ◌∙◌}
+use Rattle.std.proofs.Common.{◌++◌, ap, map, refl, ◌∙◌}
 use Rattle.signer_edge.specs.Seals.{with_seal}
 use Rattle.signer_edge.specs.Statements.{commit_text}
 use Rattle.bft_wire.specs.declared.message.Message.TheVariants as message_of
@@ -7,7 +7,7 @@ use Rattle.signer_edge.specs.Seals.{is_sealed}
 use Rattle.node_model.specs.Steps.{to_all}
 use Rattle.world_model.specs.Worlds.{sent_by}
 use Rattle.world_run.specs.Entries.{entry_of}
-use Rattle.world_run.proofs.MakingLemmas.{IfOk-with, IsDue-sent, Signs, Votes, commit-made, makes_prepared-sent, vote-at}
+use Rattle.world_run.proofs.MakingLemmas.{IfOk-with, IsDue-sent, Signs, commit-made, makes_prepared-sent, vote-at}
 use Rattle.world_run.proofs.node.Node.prepare.Goals as goal
 
 pub invariant_of-self-2 : goal.invariant_of-self-2

@@ -1,7 +1,7 @@
 use Rattle.std.proofs.Common.{subst}
 use Rattle.std.proofs.lemmas.Result.{on_ok_weaker}
-use Rattle.node_model.specs.Cores.{Core, core_ways}
-use Rattle.node_model.specs.Steps.{Making, makes_delivered, votes}
+use Rattle.node_model.specs.Cores.{core_ways}
+use Rattle.node_model.specs.Steps.{makes_delivered, votes}
 use Rattle.world_run.specs.Making.{Makes, keys_before}
 use Rattle.world_run.proofs.RoundLemmas.{rounds-both, rounds-no, rounds-single}
 use Rattle.world_run.proofs.node.Node.rounds.Goals as goal

@@ -1,5 +1,4 @@
 use Rattle.std.proofs.lemmas.Result.{on_ok_weaker}
-use Rattle.node_model.specs.Letters.{Message}
 use Rattle.node_model.specs.declared.letter.Letter.{Letter}
 use Rattle.node_model.specs.Steps.{next}
 use Rattle.world_run.proofs.MakingLemmas.{letter_begins}
