@@ -13,7 +13,8 @@ pub struct Reading<R> {
 impl<R> Reading<R> {
     /// A source that has not failed yet.
     pub fn new(inner: R) -> Reading<R>
-        ensures { result.faults ≡ 0 }
+        ensures inner { result.inner ≡ inner }
+        ensures faults { result.faults ≡ 0 }
     {
         Reading { inner, faults: 0 }
     }
@@ -45,7 +46,8 @@ pub struct Writing<W> {
 impl<W> Writing<W> {
     /// A sink that has not failed yet.
     pub fn new(inner: W) -> Writing<W>
-        ensures { result.faults ≡ 0 }
+        ensures inner { result.inner ≡ inner }
+        ensures faults { result.faults ≡ 0 }
     {
         Writing { inner, faults: 0 }
     }
