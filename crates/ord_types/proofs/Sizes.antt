@@ -1,9 +1,11 @@
 -- How long texts are.
-use Rattle.std.proofs.Common.{◌≡◌, ℕ, zero, suc, ◌+◌, ◌*◌, ◌<◌, ◌^◌, List, [], ◌∷◌, length, arith, length-append}
+use Rattle.std.proofs.Common.{◌≡◌, ℕ, zero, suc, ◌+◌, ◌*◌, ◌<◌, ◌^◌, List, [], ◌∷◌, length, arith, length-append, refl}
 use Rattle.std.specs.Int.{w32, to_be_bytes}
 use Rattle.std.specs.List.{All, flat_map}
+use Rattle.sha2.proofs.Facts256.{length-sha256}
 use Rattle.ord_types.specs.Spelling.{Config, config_text, sig_text}
-use Rattle.ord_types.specs.Grammar.{HasBlockSpelling, HasRequestSpelling}
+use Rattle.ord_types.specs.Grammar.{HasBlockSpelling}
+use Rattle.ord_types.specs.Hashes.{content_hash, meta_hash}
 use Rattle.ord_types.specs.Lengths.{FitsBlock, FitsConfig, FitsRequest}
 use Rattle.ord_types.specs.Genesis.{IsGenesisConfig, genesis_block, genesis_request, genesis_sig}
 
@@ -33,20 +35,21 @@ genesis_block_fits c h =
       meta = record { blacklist = omega arith; signers = omega arith };
     }
 
+-- the ids of a genesis block, its requests and its meta
 pub genesis_block_spelling : (c : Config) → IsGenesisConfig c → HasBlockSpelling (genesis_block c)
-unfolding genesis_block
+unfolding genesis_block content_hash meta_hash
 genesis_block_spelling c h =
     record {
-      header = omega arith;
+      header = record { number = omega arith; previous = refl; content = length-sha256 _; meta = length-sha256 _ };
       requests = record {
         count = omega arith;
-        requests = one_of HasRequestSpelling (genesis_request c) (omega (arith, length-payload c, h.members.count));
+        requests = (record { client = omega arith; serial = omega arith; size = omega (arith, length-payload c, h.members.count) }, tt);
       };
       meta = record {
         config = omega arith;
         view = omega arith;
         decided = omega arith;
-        blacklist = record { count = omega arith; different = λ i j lt below. absurd (omega arith); positive = λ k d lt. absurd (omega arith) };
-        signers = record { count = omega arith; ascending = λ i lt. absurd (omega arith); positive = λ k d lt. absurd (omega arith) };
+        blacklist = record { count = omega arith; different = tt; words = tt };
+        signers = record { count = omega arith; ascending = tt; words = tt };
       };
     }

@@ -1,7 +1,8 @@
 -- Values whose lengths fit the fields that tell them.
-use Rattle.std.specs.Prelude.{ℕ, ◌<◌, ◌^◌, List, length}
+use Rattle.std.specs.Prelude.{ℕ, ◌<◌, ◌^◌, List, length, IfSome, ⊤}
 use Rattle.std.specs.List.{All}
-use Rattle.ord_types.specs.Spelling.{Block, Cert, Config, Meta, Request, Sig}
+use Rattle.ord_types.specs.Spelling.{Block, Cert, Config, Last, Meta, Proof, Report, Request, Sig}
+use Rattle.ord_types.specs.declared.values.Proof.TheVariants as proof_of
 
 -- a count of ids is a u8
 abbrev pub FitsIds : List ℕ → Type 0
@@ -35,3 +36,15 @@ pub record FitsMeta (m : Meta) : Type 0 where
 pub record FitsBlock (b : Block) : Type 0 where
   pub requests : FitsRequests b.requests
   pub meta : FitsMeta b.meta
+
+abbrev pub FitsLast : Last → Type 0
+FitsLast l = FitsCert l.cert
+
+-- a count of accepted votes is a u8
+pub record FitsReport (r : Report) : Type 0 where
+  pub last : IfSome r.last FitsLast
+  pub count : length r.accepted < 2 ^ 8
+
+abbrev pub FitsProof : Proof → Type 0
+FitsProof proof_of.Raft = ⊤
+FitsProof (proof_of.Bft cert) = FitsCert cert

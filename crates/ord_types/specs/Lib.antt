@@ -1,9 +1,11 @@
 pub mod Causes
+pub mod Faults
 pub mod Genesis
 pub mod Grammar
 pub mod Growth
 pub mod Hashes
 pub mod Lengths
 pub mod Members
+pub mod Reading
 pub mod Spelling
 pub mod Told

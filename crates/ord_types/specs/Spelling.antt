@@ -1,5 +1,5 @@
 -- The one spelling of each value as bytes. Numbers are unsigned and big-endian.
-use Rattle.std.specs.Prelude.{ℕ, List, ◌++◌, length}
+use Rattle.std.specs.Prelude.{ℕ, List, ◌++◌, length, Option, Some, None}
 use Rattle.std.specs.Int.{w8, w16, w32, w64, to_be_bytes}
 use Rattle.std.specs.List.{flat_map}
 pub use Rattle.ord_types.specs.declared.values.Batch.{Batch}
@@ -16,6 +16,11 @@ use Rattle.ord_types.specs.declared.values.ReqKind.TheVariants.{Ordinary, Change
 pub use Rattle.ord_types.specs.declared.values.Request.{Request}
 pub use Rattle.ord_types.specs.declared.values.Sig.{Sig}
 pub use Rattle.ord_types.specs.declared.values.Cert.{Cert}
+pub use Rattle.ord_types.specs.declared.values.Vote.{Vote}
+pub use Rattle.ord_types.specs.declared.values.Last.{Last}
+pub use Rattle.ord_types.specs.declared.values.Report.{Report}
+pub use Rattle.ord_types.specs.declared.values.Proof.{Proof}
+use Rattle.ord_types.specs.declared.values.Proof.TheVariants as proof_of
 
 -- ids: a u8 count, then a u32 each
 abbrev pub ids_text : List ℕ → List ℕ
@@ -76,3 +81,27 @@ header_text h = to_be_bytes w64 h.number ++ h.previous ++ h.content ++ h.meta
 -- a block: header, requests, meta
 abbrev pub block_text : Block → List ℕ
 block_text b = header_text b.header ++ requests_text b.requests ++ meta_text b.meta
+
+-- where there may be none: u8 0, or u8 1 and the value
+abbrev pub option_text : {X : Type 0} → (X → List ℕ) → Option X → List ℕ
+option_text text None = to_be_bytes w8 0
+option_text text (Some x) = to_be_bytes w8 1 ++ text x
+
+-- a vote: u64 view, digest
+abbrev pub vote_text : Vote → List ℕ
+vote_text v = to_be_bytes w64 v.view ++ v.digest
+
+-- the last block: its hash, its certificate
+abbrev pub last_text : Last → List ℕ
+last_text l = l.hash ++ cert_text l.cert
+
+-- a report: u64 height, the last block where there is one, the preparation where there is one, a u8 count and the accepted votes
+abbrev pub report_text : Report → List ℕ
+report_text r =
+    to_be_bytes w64 r.height ++ option_text last_text r.last ++ option_text vote_text r.prepared
+    ++ to_be_bytes w8 (length r.accepted) ++ flat_map vote_text r.accepted
+
+-- a proof: u8 0 for Raft, or u8 1 and the certificate
+abbrev pub proof_text : Proof → List ℕ
+proof_text proof_of.Raft = to_be_bytes w8 0
+proof_text (proof_of.Bft cert) = to_be_bytes w8 1 ++ cert_text cert

@@ -1,6 +1,7 @@
 //! The values of the ordering service, their bytes and hashes, and the traits of what stands outside.
 #![tactic(auto)]
 
+mod fault;
 mod genesis;
 mod hashes;
 mod layouts;
@@ -8,22 +9,26 @@ mod lists;
 mod members;
 mod memory;
 mod outside;
+mod reader;
+mod reading;
 mod spelling;
 #[cfg(test)]
 mod tests;
 mod values;
 mod writing;
 
+pub use fault::{Flaw, Halt, ReadFault};
 pub use genesis::genesis_block;
 pub use hashes::{block_hash, content_hash, meta_hash};
 pub use lists::{Bytes, Copied, List, NoMemory};
 pub use members::{fault_bound, majority, quorum};
 pub use memory::{MemSink, MemSource};
 pub use outside::{Failed, Sink, Source};
+pub use reader::{Reader, bad};
 pub use spelling::{
     put_block, put_cert, put_config, put_header, put_meta, put_request, put_requests, put_sig,
 };
 pub use values::{
-    Batch, Block, Cert, Config, Digest, Header, Kind, Meta, Mode, Place, Proof, ReqId, ReqKind,
-    Request, Sig,
+    Batch, Block, Cert, Choice, Config, Digest, Header, Kind, Last, Meta, Mode, Place, Proof, Report,
+    ReqId, ReqKind, Request, Sig, Vote,
 };

@@ -103,6 +103,40 @@ pub struct Cert {
     pub sigs: List<Sig>,
 }
 
+/// A block's hash in a view.
+#[derive(Clone, Copy, Debug, PartialEq, Eq)]
+pub struct Vote {
+    pub view: u64,
+    pub digest: Digest,
+}
+
+/// The last block of a ledger: its hash and its certificate.
+#[derive(Drop)]
+pub struct Last {
+    pub hash: Digest,
+    pub cert: Cert,
+}
+
+/// What a member tells when it leaves a view: the number of its next block, its last block where it has one
+/// under the configuration in force, what it prepared at this height in its greatest view, and what it accepted
+/// at this height, by falling views, at most the 32 newest.
+#[derive(Drop)]
+pub struct Report {
+    pub height: u64,
+    pub last: Option<Last>,
+    pub prepared: Option<Vote>,
+    pub accepted: List<Vote>,
+}
+
+/// What the reports of a quorum leave for a new view: a block that must be carried into it, a free choice, or
+/// nothing yet (Castro and Liskov 2002).
+#[derive(Clone, Copy, Debug, PartialEq, Eq)]
+pub enum Choice {
+    Carry(Vote),
+    Free,
+    Neither,
+}
+
 /// What stands behind a block.
 #[derive(Drop)]
 pub enum Proof {
@@ -188,6 +222,38 @@ impl Copied for Cert {
             view: self.view,
             sigs: self.sigs.copy()?,
         })
+    }
+}
+
+impl Copied for Vote {
+    fn copy(&self) -> Result<Vote, NoMemory> {
+        Ok(*self)
+    }
+}
+
+impl Copied for Last {
+    fn copy(&self) -> Result<Last, NoMemory> {
+        Ok(Last {
+            hash: self.hash,
+            cert: self.cert.copy()?,
+        })
+    }
+}
+
+impl Copied for Report {
+    fn copy(&self) -> Result<Report, NoMemory> {
+        Ok(Report {
+            height: self.height,
+            last: self.last.copy()?,
+            prepared: self.prepared.copy()?,
+            accepted: self.accepted.copy()?,
+        })
+    }
+}
+
+impl Copied for Choice {
+    fn copy(&self) -> Result<Choice, NoMemory> {
+        Ok(*self)
     }
 }
 
