@@ -1,0 +1,4 @@
+pub mod Lengths
+pub mod Messages
+pub mod Reading
+pub mod Spelling

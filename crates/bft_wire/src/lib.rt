@@ -4,5 +4,9 @@
 mod message;
 mod reason;
 
-pub use message::{Commit, Message, PrePrepare, Prepare};
+pub use message::{
+    BlockAsk, BlockReply, Commit, Forward, HeaderAsk, HeaderReply, HeartBeat, HeartBeatReply, Message,
+    NewView, PrePrepare, Prepare, RaftAppend, RaftAppendReply, RaftBlock, RaftVote, RaftVoteReply,
+    Signed, ViewChange, ViewData,
+};
 pub use reason::Reason;

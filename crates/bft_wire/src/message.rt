@@ -1,4 +1,4 @@
-use ord_types::{Block, Cert, Copied, Digest, NoMemory, Sig};
+use ord_types::{Block, Cert, Copied, Digest, Header, List, NoMemory, Report, Request, Sig};
 
 /// The leader's block for a number, with the certificate of the block before it.
 #[derive(Drop)]
@@ -29,26 +29,158 @@ pub struct Commit {
     pub sig: Sig,
 }
 
+/// A member left its view for this one.
+#[derive(Clone, Copy, Debug, PartialEq, Eq)]
+pub struct ViewChange {
+    pub config: u64,
+    pub target: u64,
+}
+
+/// A member's signed report to the collector of a view, with the block that it prepared, where the report
+/// tells a preparation.
+#[derive(Drop)]
+pub struct ViewData {
+    pub config: u64,
+    pub view: u64,
+    pub report: Report,
+    pub sig: Sig,
+    pub block: Option<Block>,
+}
+
+/// A report with its member's signature.
+#[derive(Drop)]
+pub struct Signed {
+    pub report: Report,
+    pub sig: Sig,
+}
+
+/// The collector's reports by strictly ascending signers, at most 31, with the block that is carried into
+/// the view, where one is.
+#[derive(Drop)]
+pub struct NewView {
+    pub config: u64,
+    pub view: u64,
+    pub reports: List<Signed>,
+    pub block: Option<Block>,
+}
+
+/// A leader's sign of life.
+#[derive(Clone, Copy, Debug, PartialEq, Eq)]
+pub struct HeartBeat {
+    pub config: u64,
+    pub view: u64,
+    pub height: u64,
+}
+
+/// A member tells a leader of a lower view its own.
+#[derive(Clone, Copy, Debug, PartialEq, Eq)]
+pub struct HeartBeatReply {
+    pub config: u64,
+    pub view: u64,
+}
+
+/// A request for the leader.
+#[derive(Drop)]
+pub struct Forward {
+    pub request: Request,
+}
+
+/// Asks for 1 to 8 blocks from a number on.
+#[derive(Clone, Copy, Debug, PartialEq, Eq)]
+pub struct BlockAsk {
+    pub first: u64,
+    pub count: u8,
+}
+
+/// A block that was ordered under BFT.
+#[derive(Drop)]
+pub struct BlockReply {
+    pub block: Block,
+    pub cert: Cert,
+}
+
+/// Asks for headers from a number downwards.
+#[derive(Clone, Copy, Debug, PartialEq, Eq)]
+pub struct HeaderAsk {
+    pub number: u64,
+}
+
+/// Headers from the asked one downwards, at most 1,000.
+#[derive(Drop)]
+pub struct HeaderReply {
+    pub headers: List<Header>,
+}
+
+/// A candidate of a term asks for a vote, and tells its height and the term of its tail.
+#[derive(Clone, Copy, Debug, PartialEq, Eq)]
+pub struct RaftVote {
+    pub term: u64,
+    pub height: u64,
+    pub tail_term: u64,
+}
+
+/// Whether the vote was granted, with the sender's own term.
+#[derive(Clone, Copy, Debug, PartialEq, Eq)]
+pub struct RaftVoteReply {
+    pub term: u64,
+    pub granted: bool,
+}
+
+/// The leader of a term tells its height and the hash of its last block, with its tail where it has one.
+#[derive(Drop)]
+pub struct RaftAppend {
+    pub term: u64,
+    pub height: u64,
+    pub last: Digest,
+    pub block: Option<Block>,
+}
+
+/// Whether the block of this digest was taken as the tail at this number, with the sender's own term.
+#[derive(Clone, Copy, Debug, PartialEq, Eq)]
+pub struct RaftAppendReply {
+    pub term: u64,
+    pub number: u64,
+    pub digest: Digest,
+    pub taken: bool,
+}
+
+/// A block that was ordered under Raft.
+#[derive(Drop)]
+pub struct RaftBlock {
+    pub block: Block,
+}
+
 /// A message between members.
 #[derive(Drop)]
 pub enum Message {
     PrePrepare(PrePrepare),
     Prepare(Prepare),
     Commit(Commit),
+    ViewChange(ViewChange),
+    ViewData(ViewData),
+    NewView(NewView),
+    HeartBeat(HeartBeat),
+    HeartBeatReply(HeartBeatReply),
+    Forward(Forward),
+    BlockAsk(BlockAsk),
+    BlockReply(BlockReply),
+    HeaderAsk(HeaderAsk),
+    HeaderReply(HeaderReply),
+    RaftVote(RaftVote),
+    RaftVoteReply(RaftVoteReply),
+    RaftAppend(RaftAppend),
+    RaftAppendReply(RaftAppendReply),
+    RaftBlock(RaftBlock),
 }
 
 impl Copied for PrePrepare {
     fn copy(&self) -> Result<PrePrepare, NoMemory> {
-        let cert = match &self.cert {
-            Some(cert) => Some(cert.copy()?),
-            None => None,
-        };
         Ok(PrePrepare {
             config: self.config,
             view: self.view,
             number: self.number,
             block: self.block.copy()?,
-            cert,
+            cert: self.cert.copy()?,
         })
     }
 }
@@ -60,6 +192,15 @@ impl Copied for Commit {
             view: self.view,
             number: self.number,
             digest: self.digest,
+            sig: self.sig.copy()?,
+        })
+    }
+}
+
+impl Copied for Signed {
+    fn copy(&self) -> Result<Signed, NoMemory> {
+        Ok(Signed {
+            report: self.report.copy()?,
             sig: self.sig.copy()?,
         })
     }
