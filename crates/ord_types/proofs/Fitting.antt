@@ -1,5 +1,5 @@
 -- What has a spelling has lengths that fit their fields.
-use Rattle.std.proofs.Common.{ℕ, ◌+◌, ◌≤◌, arith, List, [], ◌∷◌, All, Option, Some, None, IfSome}
+use Rattle.std.proofs.Common.{ℕ, ◌+◌, arith, List, [], ◌∷◌, Option, Some, None, IfSome}
 use Rattle.std.specs.List.{AllByRecursion}
 use Rattle.std.proofs.lemmas.List.Elements.{All-from_recursion}
 use Rattle.ord_types.specs.Spelling.{Block, Cert, Config, Last, Meta, Report, Request, Sig}

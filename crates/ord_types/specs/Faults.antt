@@ -1,5 +1,5 @@
 -- What a call that reads answers: the value, or the fault by its place.
-use Rattle.std.specs.Prelude.{◌≡◌, ℕ, ◌+◌, ◌-◌, ◌≤◌, ◌==◌, List, [], ◌∷◌, ◌++◌, length, drop, Result, Ok, Err, if◌then◌else◌, ⊤}
+use Rattle.std.specs.Prelude.{◌≡◌, ℕ, ◌+◌, ◌-◌, ◌≤◌, List, [], ◌∷◌, ◌++◌, length, drop, Result, Ok, Err, ⊤}
 use Rattle.ord_types.specs.Reading.{Reading}
 use Rattle.ord_types.specs.declared.fault.Flaw.{Flaw}
 use Rattle.ord_types.specs.declared.fault.Flaw.TheVariants.{Short, Bad}

@@ -1,5 +1,5 @@
 -- Values that have a spelling: each number within its field, each list within its bound and in its order.
-use Rattle.std.specs.Prelude.{◌≡◌, ℕ, ◌+◌, ◌<◌, ◌≤◌, ◌^◌, Bool, false, List, [], ◌∷◌, ◌++◌, length, IfSome, ⊤}
+use Rattle.std.specs.Prelude.{◌≡◌, ℕ, ◌+◌, ◌<◌, ◌≤◌, ◌^◌, false, List, [], ◌∷◌, ◌++◌, length, IfSome, ⊤}
 use Rattle.std.specs.List.{AllByRecursion}
 use Rattle.ord_types.specs.Members.{is_in}
 use Rattle.ord_types.specs.Spelling.{Batch, Block, Cert, Config, Header, Last, Meta, Proof, Report, Request, Sig, Vote}

@@ -1,6 +1,6 @@
 -- How values are read, field by field from the left. A field is first asked for its length, then for its rule; the first that isn't there
 -- whole, or breaks its rule, is the flaw.
-use Rattle.std.specs.Prelude.{◌≡◌, ℕ, zero, suc, ◌+◌, ◌-◌, ◌^◌, ◌==◌, ◌&&◌, Bool, not, nat_lt, nat_le, List, [], ◌∷◌, ◌++◌, length, take, drop, Option, Some, None, Result, Ok, Err, if◌then◌else◌, ⊤}
+use Rattle.std.specs.Prelude.{ℕ, zero, suc, ◌+◌, ◌^◌, ◌==◌, ◌&&◌, Bool, not, nat_lt, nat_le, List, [], ◌∷◌, ◌++◌, length, take, drop, Option, Some, None, Result, Ok, Err, if◌then◌else◌}
 use Rattle.std.specs.Int.{Width, w8, w16, w32, w64, byte_len, from_be_bytes}
 use Rattle.ord_types.specs.Members.{is_in}
 use Rattle.ord_types.specs.Spelling.{Batch, Block, Cert, Config, Header, Kind, Last, Meta, Mode, Proof, Report, ReqKind, Request, Sig, Vote}

@@ -29,6 +29,6 @@ pub use spelling::{
     put_block, put_cert, put_config, put_header, put_meta, put_request, put_requests, put_sig,
 };
 pub use values::{
-    Batch, Block, Cert, Choice, Config, Digest, Header, Kind, Last, Meta, Mode, Place, Proof, Report,
-    ReqId, ReqKind, Request, Sig, Vote,
+    Batch, Block, Cert, Choice, Config, Digest, Header, Kind, Last, Meta, Mode, Place, Proof,
+    Report, ReqId, ReqKind, Request, Sig, Vote,
 };

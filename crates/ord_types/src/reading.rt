@@ -1,5 +1,5 @@
 //! Reads values from the front of bytes.
-ghost use Rattle.std.specs.Prelude.{◌≡◌, [], ◌^◌};
+ghost use Rattle.std.specs.Prelude.{◌≡◌, [], ◌^◌, ◌&&◌, nat_le, not};
 ghost use Rattle.ord_types.specs.Faults.{Reads};
 ghost use Rattle.ord_types.specs.Reading.{
   ascending_at,
@@ -26,11 +26,13 @@ ghost use Rattle.ord_types.specs.Reading.{
   sig_at,
   sig_from_at,
   sigs_at,
+  tested_at,
   vote_at,
   vote_below_at,
   votes_at,
 };
-ghost use Rattle.std.specs.Int.{w8};
+ghost use Rattle.std.specs.Int.{w8, w32};
+ghost use Rattle.ord_types.specs.Members.{is_in};
 
 use crate::fault::Halt;
 use crate::lists::List;
@@ -89,17 +91,26 @@ impl<'a> Reader<'a> {
         Ok(ids)
     }
 
+    /// An id other than those seen before it.
+    fn new_id(&mut self, seen: &[u32]) -> Result<u32, Halt>
+        ensures { Reads result self.new (tested_at w32 (λ id. nat_le 1 id && not (is_in id seen.now)) self.old) }
+    {
+        let left = self.left();
+        let id = self.u32()?;
+        if 1 <= id && !seen.contains(&id) {
+            Ok(id)
+        } else {
+            Err(bad(left))
+        }
+    }
+
     /// So many ids, each other than those before it.
     fn differing(&mut self, alloc: Global, count: u8) -> Result<List<u32>, Halt>
         ensures { Reads result self.new (differing_at [] count self.old) }
     {
         let mut ids = List::new(alloc);
         for _ in 0..count {
-            let left = self.left();
-            let id = self.u32()?;
-            if id == 0 || ids.as_slice().contains(&id) {
-                return Err(bad(left));
-            }
+            let id = self.new_id(ids.as_slice())?;
             ids.push(id)?;
         }
         Ok(ids)
