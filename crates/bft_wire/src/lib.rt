@@ -1,6 +1,7 @@
 //! The messages between members, and the reasons for which one brings nothing.
 #![tactic(auto)]
 
+mod decoding;
 mod message;
 mod reason;
 
