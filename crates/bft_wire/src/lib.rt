@@ -4,6 +4,7 @@
 mod decoding;
 mod encoding;
 mod message;
+mod placing;
 mod reason;
 
 pub use message::{
