@@ -5,6 +5,7 @@ ghost use Rattle.bft_wire.specs.Placing.{Counted, IsCount, Placed, adds_both, ad
 use ord_types::Writer;
 
 /// Counts the bytes of a spelled value. A count that rises stands still at its type's end.
+#[derive(Drop)]
 pub(crate) struct Counting {
     pub(crate) count: usize,
 }
@@ -22,6 +23,7 @@ impl Writer for Counting {
 }
 
 /// Writes a spelled value over the bytes of a buffer, from a place on. What does not fit isn't written.
+#[derive(Drop)]
 pub(crate) struct Placing<'a> {
     pub(crate) out: &'a mut [u8],
     pub(crate) place: usize,
