@@ -280,7 +280,7 @@ made_law n made May text told taken =
 pub number_law : {w : Width} {limit : ℕ} → IsWide w limit → Law (number_at w) (Spelled (λ n. n < limit) (to_be_bytes w))
 number_law {w} {limit} wide =
     made_law (byte_len w) (from_be_bytes w) (λ n. n < limit) (to_be_bytes w)
-      (λ bytes fits len. (wide.below bytes fits, wide.back bytes len fits)) (λ n lt. (wide.len n, wide.again n lt))
+    (λ bytes fits len. (wide.below bytes fits, wide.back bytes len fits)) (λ n lt. (wide.len n, wide.again n lt))
 
 pub bytes_law : (n : ℕ) → Law (bytes_at n) (Spelled (λ bytes. length bytes ≡ n) (λ bytes. bytes))
 bytes_law n = made_law n (λ bytes. bytes) (λ bytes. length bytes ≡ n) (λ bytes. bytes) (λ bytes fits len. (len, refl)) (λ bytes len. (len, refl))
@@ -348,9 +348,9 @@ pub tested_law : {w : Width} {limit : ℕ} (wide : IsWide w limit) (test : ℕ �
     → ((n : ℕ) → May n → (n < limit) × (test n ≡ true)) → Law (tested_at w test) (Spelled May (to_be_bytes w))
 tested_law {w} {limit} wide test May passes may =
     same_reading (λ bytes. same_after (number_at w bytes) (λ n. meant (length bytes) (passed (test n.0) n.0) n.1) (λ n. cond (test n.0) (Ok n) (Err (Bad (length bytes)))) (λ n. same_test (test n.0) n (length bytes)))
-      (meant_law wide (λ n. passed (test n) n) May (λ n. n)
-        (λ n m lt e. let p = passed_is (test n) n m e in (subst May (sym p.1) (passes n lt p.0), p.1))
-        (λ n m. let k = may n m in (k.0, ap (λ b. passed b n) k.1)))
+    (meant_law wide (λ n. passed (test n) n) May (λ n. n)
+    (λ n m lt e. let p = passed_is (test n) n m e in (subst May (sym p.1) (passes n lt p.0), p.1))
+    (λ n m. let k = may n m in (k.0, ap (λ b. passed b n) k.1)))
 
 -- LISTS
 
