@@ -157,11 +157,11 @@ raft_block_at bytes = do
   block ← block_at bytes
   Ok (message_of.RaftBlock (record { block = block.0 }), block.1)
 
--- THE KINDS, by their numbers
+-- THE KINDS
 
--- of votes and views
-unfoldable pub view_body_at : ℕ → ℕ → Reading Message
-view_body_at left kind bytes =
+-- the body of a kind from 1 to 18
+unfoldable pub body_at : ℕ → Reading Message
+body_at kind bytes =
     if kind == 1 then preprepare_at bytes else
     (if kind == 2 then prepare_at bytes else
     (if kind == 3 then commit_at bytes else
@@ -169,36 +169,22 @@ view_body_at left kind bytes =
     (if kind == 5 then view_data_at bytes else
     (if kind == 6 then new_view_at bytes else
     (if kind == 7 then heart_beat_at bytes else
-    (if kind == 8 then heart_beat_reply_at bytes else Err (Bad left))))))))
-
--- of a request that is passed on, and of blocks and headers that are asked for
-unfoldable pub pull_body_at : ℕ → ℕ → Reading Message
-pull_body_at left kind bytes =
-    if kind == 9 then forward_at bytes else
+    (if kind == 8 then heart_beat_reply_at bytes else
+    (if kind == 9 then forward_at bytes else
     (if kind == 10 then block_ask_at bytes else
     (if kind == 11 then block_reply_at bytes else
     (if kind == 12 then header_ask_at bytes else
-    (if kind == 13 then header_reply_at bytes else Err (Bad left)))))
-
--- of Raft
-unfoldable pub raft_body_at : ℕ → ℕ → Reading Message
-raft_body_at left kind bytes =
-    if kind == 14 then raft_vote_at bytes else
+    (if kind == 13 then header_reply_at bytes else
+    (if kind == 14 then raft_vote_at bytes else
     (if kind == 15 then raft_vote_reply_at bytes else
     (if kind == 16 then raft_append_at bytes else
     (if kind == 17 then raft_append_reply_at bytes else
-    (if kind == 18 then raft_block_at bytes else Err (Bad left)))))
-
--- the body of a kind, at whose byte so many bytes were left; another kind breaks the rule of that byte
-unfoldable pub body_at : ℕ → ℕ → Reading Message
-body_at left kind bytes =
-    if nat_le kind 8 then view_body_at left kind bytes else
-    (if nat_le kind 13 then pull_body_at left kind bytes else raft_body_at left kind bytes)
+    raft_block_at bytes))))))))))))))))
 
 unfoldable pub message_at : Reading Message
 message_at bytes = do
-  kind ← number_at w8 bytes
-  body_at (length bytes) kind.0 kind.1
+  kind ← tested_at w8 (λ n. nat_le 1 n && nat_le n 18) bytes
+  body_at kind.0 kind.1
 
 -- what all of the bytes spell, or why they spell nothing
 unfoldable pub decoded : List ℕ → Result Message ReadFault

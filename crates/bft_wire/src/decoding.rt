@@ -1,5 +1,5 @@
 //! Reads messages from the front of bytes.
-ghost use Rattle.std.specs.Prelude.{◌≡◌, ℕ, length};
+ghost use Rattle.std.specs.Prelude.{◌≤◌};
 ghost use Rattle.ord_types.specs.Faults.{Reads};
 ghost use Rattle.bft_wire.specs.Reading.{
   block_ask_at,
@@ -16,16 +16,13 @@ ghost use Rattle.bft_wire.specs.Reading.{
   new_view_at,
   prepare_at,
   preprepare_at,
-  pull_body_at,
   raft_append_at,
   raft_append_reply_at,
   raft_block_at,
-  raft_body_at,
   raft_vote_at,
   raft_vote_reply_at,
   signed_from_at,
   signed_reports_at,
-  view_body_at,
   view_change_at,
   view_data_at,
 };
@@ -36,7 +33,7 @@ use crate::message::{
     NewView, PrePrepare, Prepare, RaftAppend, RaftAppendReply, RaftBlock, RaftVote, RaftVoteReply,
     Signed, ViewChange, ViewData,
 };
-use ord_types::{Halt, Header, List, Reader, bad};
+use ord_types::{Halt, Header, List, Reader};
 use std::alloc::Global;
 
 #[tactic(auto, unfolding(crate::specs::Reading::flag_at))]
@@ -283,10 +280,11 @@ fn raft_block(reader: &mut Reader, alloc: Global) -> Result<Message, Halt>
     }))
 }
 
-// The body of a vote, or of a message on views.
-#[tactic(auto, unfolding(crate::specs::Reading::view_body_at))]
-fn view_body(reader: &mut Reader, alloc: Global, kind: u8, left: usize) -> Result<Message, Halt>
-    ensures { Reads result reader.new (view_body_at left kind reader.old) }
+// The body of a kind from 1 to 18.
+#[tactic(auto, unfolding(crate::specs::Reading::body_at))]
+fn body(reader: &mut Reader, alloc: Global, kind: u8) -> Result<Message, Halt>
+    requires { (1 ≤ kind) × (kind ≤ 18) }
+    ensures { Reads result reader.new (body_at kind reader.old) }
 {
     match kind {
         1 => preprepare(reader, alloc),
@@ -297,51 +295,17 @@ fn view_body(reader: &mut Reader, alloc: Global, kind: u8, left: usize) -> Resul
         6 => new_view(reader, alloc),
         7 => heart_beat(reader),
         8 => heart_beat_reply(reader),
-        _ => Err(bad(left)),
-    }
-}
-
-// The body of a request that is passed on, or of an ask or a reply of blocks or headers.
-#[tactic(auto, unfolding(crate::specs::Reading::pull_body_at))]
-fn pull_body(reader: &mut Reader, alloc: Global, kind: u8, left: usize) -> Result<Message, Halt>
-    ensures { Reads result reader.new (pull_body_at left kind reader.old) }
-{
-    match kind {
         9 => forward(reader, alloc),
         10 => block_ask(reader),
         11 => block_reply(reader, alloc),
         12 => header_ask(reader),
         13 => header_reply(reader, alloc),
-        _ => Err(bad(left)),
-    }
-}
-
-// The body of a message of Raft.
-#[tactic(auto, unfolding(crate::specs::Reading::raft_body_at))]
-fn raft_body(reader: &mut Reader, alloc: Global, kind: u8, left: usize) -> Result<Message, Halt>
-    ensures { Reads result reader.new (raft_body_at left kind reader.old) }
-{
-    match kind {
         14 => raft_vote(reader),
         15 => raft_vote_reply(reader),
         16 => raft_append(reader, alloc),
         17 => raft_append_reply(reader),
         18 => raft_block(reader, alloc),
-        _ => Err(bad(left)),
-    }
-}
-
-// The body of a kind, at whose byte so many bytes were left.
-#[tactic(auto, unfolding(crate::specs::Reading::body_at))]
-fn body(reader: &mut Reader, alloc: Global, kind: u8, left: usize) -> Result<Message, Halt>
-    ensures { Reads result reader.new (body_at left kind reader.old) }
-{
-    if kind <= 8 {
-        view_body(reader, alloc, kind, left)
-    } else if kind <= 13 {
-        pull_body(reader, alloc, kind, left)
-    } else {
-        raft_body(reader, alloc, kind, left)
+        _ => unreachable!(),
     }
 }
 
@@ -350,7 +314,6 @@ fn body(reader: &mut Reader, alloc: Global, kind: u8, left: usize) -> Result<Mes
 pub(crate) fn message(reader: &mut Reader, alloc: Global) -> Result<Message, Halt>
     ensures { Reads result reader.new (message_at reader.old) }
 {
-    let left = reader.left();
-    let kind = reader.u8()?;
-    body(reader, alloc, kind, left)
+    let kind = reader.u8_within(1, 18)?;
+    body(reader, alloc, kind)
 }
