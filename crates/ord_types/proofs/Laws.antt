@@ -86,6 +86,7 @@ pub record Law {X : Type 0} (at : Reading X) (Means : X → List ℕ → Type 0)
   pub complete : (x : X) (text rest : List ℕ) → Means x text → at (text ++ rest) ≡ Ok (x, rest)
   pub steady_ok : (bytes : List ℕ) (x : X) (rest more : List ℕ) → at bytes ≡ Ok (x, rest) → at (bytes ++ more) ≡ Ok (x, rest ++ more)
   pub steady_bad : (bytes : List ℕ) (left : ℕ) (more : List ℕ) → at bytes ≡ Err (Bad left) → at (bytes ++ more) ≡ Err (Bad (left + length more))
+  pub inside : (bytes : List ℕ) (left : ℕ) → IsBytes bytes → at bytes ≡ Err (Bad left) → left ≤ length bytes
 
 -- the same reading, meant otherwise
 pub said_as : {X : Type 0} {at : Reading X} {Means Other : X → List ℕ → Type 0} → ((x : X) (t : List ℕ) → Means x t → Other x t) → ((x : X) (t : List ℕ) → Other x t → Means x t) → Law at Means → Law at Other
@@ -95,6 +96,7 @@ said_as to from law =
       complete = λ x text rest h. law.complete x text rest (from _ _ h);
       steady_ok = law.steady_ok;
       steady_bad = law.steady_bad;
+      inside = law.inside;
     }
 
 -- another reading that gives the same
@@ -105,6 +107,7 @@ same_reading same law =
       complete = λ x text rest h. sym (same (text ++ rest)) ∙ law.complete x text rest h;
       steady_ok = λ bytes x rest more e. sym (same (bytes ++ more)) ∙ law.steady_ok bytes x rest more (same bytes ∙ e);
       steady_bad = λ bytes left more e. sym (same (bytes ++ more)) ∙ law.steady_bad bytes left more (same bytes ∙ e);
+      inside = λ bytes left fits e. law.inside bytes left fits (same bytes ∙ e);
     }
 
 -- ONE AFTER THE OTHER
@@ -156,6 +159,14 @@ step {A} {Y} {at} {May} {text} {after} {More} law laws =
             | Ended.at_first h ↦ rw (law.steady_bad bytes left more h) refl
             | Ended.at_second x h k ↦ rw (law.steady_ok bytes x.0 x.1 more h) ((laws x.0).steady_bad x.1 left more k)
           ];
+      inside = λ bytes left fits e.
+          elim (bind_bad (at bytes) (λ r. after r.0 r.1) left e) [
+            | Ended.at_first h ↦ law.inside bytes left fits h
+            | Ended.at_second x h k ↦
+                let f = law.sound bytes x.0 x.1 fits h in
+                let le = (laws x.0).inside x.1 left (IsBytes-rest f.text x.1 (subst IsBytes f.parts fits)) k in
+                omega (arith, ap length f.parts, length-append f.text x.1)
+          ];
     }
 
 pub last : {A Y : Type 0} {at : Reading A} {May : A → Type 0} {text : A → List ℕ} (made : A → Y) → Law at (Spelled May text) → Law (λ bytes. at bytes >>= λ r. Ok (made r.0, r.1)) (Ends May text made)
@@ -180,6 +191,11 @@ last {A} {Y} {at} {May} {text} made law =
       steady_bad = λ bytes left more e.
           elim (bind_bad (at bytes) (λ r. Ok (made r.0, r.1)) left e) [
             | Ended.at_first h ↦ rw (law.steady_bad bytes left more h) refl
+            | Ended.at_second x h k ↦ absurd cc
+          ];
+      inside = λ bytes left fits e.
+          elim (bind_bad (at bytes) (λ r. Ok (made r.0, r.1)) left e) [
+            | Ended.at_first h ↦ law.inside bytes left fits h
             | Ended.at_second x h k ↦ absurd cc
           ];
     }
@@ -275,6 +291,7 @@ made_law n made May text told taken =
           let long : ltb (length (bytes ++ more)) n ≡ false = le-ltb _ _ (omega (arith, length-append bytes more)) in
           rw (long, take-append-le n bytes more h.0, drop-append-le n bytes more h.0, h.1, h.2) refl;
       steady_bad = λ bytes left more e. never_bad (ltb (length bytes) n) (pair (made (take n bytes)) (drop n bytes)) left e;
+      inside = λ bytes left fits e. never_bad (ltb (length bytes) n) (pair (made (take n bytes)) (drop n bytes)) left e;
     }
 
 pub number_law : {w : Width} {limit : ℕ} → IsWide w limit → Law (number_at w) (Spelled (λ n. n < limit) (to_be_bytes w))
@@ -326,6 +343,11 @@ meant_law {X} {w} {limit} wide means May number told taken =
                 let m = meant_bad (length bytes) (means n.0) n.1 left k in
                 rw (law.steady_ok bytes n.0 n.1 more h, m.0, length-append bytes more, m.1) refl
           ];
+      inside = λ bytes left fits e.
+          elim (bind_bad (number_at w bytes) (λ n. meant (length bytes) (means n.0) n.1) left e) [
+            | Ended.at_first h ↦ law.inside bytes left fits h
+            | Ended.at_second n h k ↦ let m = meant_bad (length bytes) (means n.0) n.1 left k in omega (arith, m.1)
+          ];
     }
 
 -- a number, where it passes
@@ -371,6 +393,7 @@ nothing made =
       complete = λ y t rest h. rw (h.is, h.whole) refl;
       steady_ok = λ bytes y rest more e. let p = ok_parts made y bytes rest e in rw (p.0, p.1) refl;
       steady_bad = λ bytes left more e. absurd cc;
+      inside = λ bytes left fits e. absurd cc;
     }
 
 abbrev pub SoMany : {S X : Type 0} → (S → X → Type 0) → (S → X → S) → S → ℕ → List X → Type 0

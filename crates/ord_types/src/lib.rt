@@ -15,6 +15,7 @@ mod spelling;
 #[cfg(test)]
 mod tests;
 mod values;
+mod whole;
 mod writing;
 
 pub use fault::{Flaw, Halt, ReadFault};
@@ -36,4 +37,5 @@ pub use values::{
     Batch, Block, Cert, Choice, Config, Digest, Header, Kind, Last, Meta, Mode, Place, Proof,
     Report, ReqId, ReqKind, Request, Sig, Vote,
 };
+pub use whole::{read_config, whole_config};
 pub use writing::{Growing, Writer};
