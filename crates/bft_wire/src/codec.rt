@@ -21,10 +21,14 @@ fn whole_message(alloc: Global, bytes: &[u8]) -> Result<Message, ReadFault>
 {
     let mut reader = Reader::new(bytes);
     match message(&mut reader, alloc) {
-        Ok(_) if reader.left() > 0 => Err(ReadFault::Trailing(bytes.len().saturating_sub(reader.left()))),
+        Ok(_) if reader.left() > 0 => Err(ReadFault::Trailing(
+            bytes.len().saturating_sub(reader.left()),
+        )),
         Ok(message) => Ok(message),
         Err(Halt::Flawed(Flaw::Short)) => Err(ReadFault::Short(bytes.len())),
-        Err(Halt::Flawed(Flaw::Bad(left))) => Err(ReadFault::BadField(bytes.len().saturating_sub(left))),
+        Err(Halt::Flawed(Flaw::Bad(left))) => Err(ReadFault::BadField(
+            bytes.len().saturating_sub(left),
+        )),
         Err(Halt::NoMemory) => Err(ReadFault::NoMemory),
     }
 }
