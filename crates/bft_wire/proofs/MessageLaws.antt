@@ -1,18 +1,23 @@
 -- The laws of messages: what is read is what the bytes spell, what is spelled is read, and more bytes behind a message change nothing but the end.
 use Rattle.std.proofs.Common.{◌≡◌, ℕ, zero, suc, ◌+◌, ◌^◌, ◌<◌, ◌≤◌, Bool, true, false, cond, List, [], ◌∷◌, ◌++◌, length, Option, Some, None, Result, Ok, Err, refl, sym, ap, subst, ◌∙◌, append_assoc, arith}
-use Rattle.std.specs.Prelude.{nat_le, ◌==◌, ◌&&◌, IfSome}
+use Rattle.std.specs.Prelude.{nat_le, ◌==◌, ◌&&◌, IfOk, IfSome}
 use Rattle.std.specs.Int.{w8, w16, w64, to_be_bytes}
 use Rattle.std.specs.List.{AllByRecursion, flat_map}
-use Rattle.std.proofs.lemmas.Bool.{leb-true, le-leb, eqb-true}
+use Rattle.std.proofs.lemmas.Bool.{leb-true, le-leb}
+use Rattle.std.proofs.lemmas.List.{append-nil}
 use Rattle.ord_types.specs.Grammar.{HasBlockSpelling, HasCertSpelling, HasHeaderSpelling, HasReportSpelling, HasRequestSpelling, HasSigSpelling, IsDigest, IsNumber}
 use Rattle.ord_types.specs.Reading.{Reading, header_at, tested_at}
 use Rattle.ord_types.specs.Spelling.{block_text, cert_text, header_text, option_text, report_text, request_text, sig_text}
-use Rattle.ord_types.proofs.Laws.{AllFrom, Begins, Ends, IsBytes, Law, SoMany, Spelled, cut, last, many_law, one_spelling, option_law, read_again, said_as, spelled, step, tested_law, wide8}
+use Rattle.ord_types.proofs.Laws.{AllFrom, Begins, Ends, IsBytes, Law, SoMany, Spelled, cut, last, many_law, one_spelling, option_law, read_again, read_whole, said_as, spelled, step, tested_law, wide8}
 use Rattle.ord_types.proofs.Loops.{list_loop}
 use Rattle.ord_types.proofs.ValueLaws.{HasSigFrom, below_law, block_law, cert_law, count16_law, count8_law, digest_law, header_law, report_law, request_law, sig_from_law, sig_law}
+use Rattle.ord_types.specs.Faults.{Answers, all_or, whole}
+use Rattle.ord_types.specs.declared.fault.Flaw.{Flaw}
+use Rattle.ord_types.specs.declared.fault.Flaw.TheVariants.{Bad}
+use Rattle.ord_types.specs.declared.fault.ReadFault.{ReadFault}
 use Rattle.ord_types.specs.declared.values.Header.{Header}
-use Rattle.bft_wire.specs.Messages.{AreSigned, HasMessageSpelling, IsBlockAsk, IsBlockReply, IsCommit, IsHeaderReply, IsHeartBeat, IsHeartBeatReply, IsNewView, IsPrePrepare, IsPrepare, IsRaftAppend, IsRaftAppendReply, IsRaftVote, IsViewChange, IsViewData}
-use Rattle.bft_wire.specs.Reading.{block_ask_at, block_reply_at, body_at, commit_at, flag_at, forward_at, header_ask_at, header_reply_at, heart_beat_at, heart_beat_reply_at, message_at, new_view_at, prepare_at, preprepare_at, raft_append_at, raft_append_reply_at, raft_block_at, raft_vote_at, raft_vote_reply_at, signed_from_at, signed_reports_at, view_change_at, view_data_at}
+use Rattle.bft_wire.specs.Messages.{AreSigned, HasMessageSpelling, IsBlockAsk, IsBlockReply, IsCommit, IsHeaderReply, IsHeartBeat, IsHeartBeatReply, IsNewView, IsPrePrepare, IsPrepare, IsRaftAppend, IsRaftAppendReply, IsRaftVote, IsViewChange, IsViewData, Spells}
+use Rattle.bft_wire.specs.Reading.{block_ask_at, block_reply_at, body_at, commit_at, decoded, flag_at, forward_at, header_ask_at, header_reply_at, heart_beat_at, heart_beat_reply_at, message_at, new_view_at, prepare_at, preprepare_at, raft_append_at, raft_append_reply_at, raft_block_at, raft_vote_at, raft_vote_reply_at, signed_from_at, signed_reports_at, view_change_at, view_data_at}
 use Rattle.bft_wire.specs.Spelling.{Message, Signed, flag_text, message_text, signed_text}
 use Rattle.bft_wire.specs.declared.message.Message.TheVariants as message_of
 use Rattle.bft_wire.specs.declared.message.BlockAsk.{BlockAsk}
@@ -33,6 +38,7 @@ use Rattle.bft_wire.specs.declared.message.RaftVote.{RaftVote}
 use Rattle.bft_wire.specs.declared.message.RaftVoteReply.{RaftVoteReply}
 use Rattle.bft_wire.specs.declared.message.ViewChange.{ViewChange}
 use Rattle.bft_wire.specs.declared.message.ViewData.{ViewData}
+use Rattle.bft_wire.specs.Laws.{CutIsShort, RoundTrip, Unambiguous}
 use Rattle.bft_wire.proofs.Loops.{reports_loop}
 
 -- PIECES, from the left and from the right
@@ -575,3 +581,61 @@ unfolding message_at
 message_law =
     said_as (λ m t h. let k = of_kind h.first m h.behind h.may.0 h.may.1 h.more in record { may = k.may; is = h.is ∙ k.is }) with_kind
     (step (within_law 1 18 (omega arith)) body_law)
+
+-- THE WHOLE OF THE BYTES
+
+all_parts : (size : ℕ) (m : Message) (rest : List ℕ) (n : Message) → all_or size m rest ≡ Ok n → (m ≡ n) × (rest ≡ [])
+all_parts size m [] n e = (cc, refl)
+all_parts size m (b ∷ rest) n e = absurd cc
+
+spells_all : (bytes : List ℕ) (m : Message) (read : Result (Message × List ℕ) Flaw) → IsBytes bytes → message_at bytes ≡ read → whole (length bytes) read ≡ Ok m → Spells bytes m
+spells_all bytes m (Ok found) fits e is =
+    let s = spelled message_law bytes found.0 found.1 fits e in
+    let a = all_parts (length bytes) found.0 found.1 m is in
+    subst (Spells bytes) a.0 (record { grammar = s.0; text = s.1 ∙ ap (λ r. message_text found.0 ++ r) a.1 ∙ append-nil (message_text found.0) })
+spells_all bytes m (Err flaw) fits e is = absurd cc
+
+-- what is decoded is spelled
+pub decoded_sound : (bytes : List ℕ) (m : Message) → IsBytes bytes → decoded bytes ≡ Ok m → Spells bytes m
+unfolding decoded
+decoded_sound bytes m fits e = spells_all bytes m (message_at bytes) fits refl e
+
+-- what is spelled is decoded
+pub decoded_complete : (bytes : List ℕ) (m : Message) → Spells bytes m → decoded bytes ≡ Ok m
+unfolding decoded
+decoded_complete bytes m h = ap (whole (length bytes)) (ap message_at h.text ∙ read_whole message_law m h.grammar)
+
+pub found_of : (bytes : List ℕ) (result : Result Message ReadFault) → IsBytes bytes → Answers result (decoded bytes) → IfOk result (Spells bytes)
+found_of bytes (Ok m) fits answered = decoded_sound bytes m fits answered
+found_of bytes (Err fault) fits answered = tt
+
+pub only_of : (bytes : List ℕ) (result : Result Message ReadFault) → Answers result (decoded bytes) → (m : Message) → Spells bytes m → Answers result (Ok m)
+only_of bytes result answered m h = subst (Answers result) (decoded_complete bytes m h) answered
+
+-- THE THREE LAWS
+
+pub message_sound : (bytes : List ℕ) (m : Message) (rest : List ℕ) → IsBytes bytes → message_at bytes ≡ Ok (m, rest) → HasMessageSpelling m × (bytes ≡ message_text m ++ rest)
+message_sound = spelled message_law
+
+pub message_complete : (m : Message) (rest : List ℕ) → HasMessageSpelling m → message_at (message_text m ++ rest) ≡ Ok (m, rest)
+message_complete = read_again message_law
+
+-- more bytes behind change nothing but the end
+pub message_steady : (bytes : List ℕ) (m : Message) (rest more : List ℕ) → message_at bytes ≡ Ok (m, rest) → message_at (bytes ++ more) ≡ Ok (m, rest ++ more)
+message_steady = message_law.steady_ok
+
+pub message_steady_bad : (bytes : List ℕ) (left : ℕ) (more : List ℕ) → message_at bytes ≡ Err (Bad left) → message_at (bytes ++ more) ≡ Err (Bad (left + length more))
+message_steady_bad = message_law.steady_bad
+
+-- WHAT FOLLOWS FOR ALL MESSAGES
+
+pub round_trip : RoundTrip
+round_trip = record { again = message_complete; whole = λ m may. decoded_complete (message_text m) m (record { grammar = may; text = refl }) }
+
+pub unambiguous : Unambiguous
+unambiguous m n rest may may' e =
+    let same = one_spelling message_law m n rest [] may may' (e ∙ sym (append-nil (message_text n))) in same
+
+pub cut_is_short : CutIsShort
+unfolding decoded
+cut_is_short m front next behind may e = ap (whole (length front)) (cut message_law m front behind next may e)
