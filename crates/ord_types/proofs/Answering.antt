@@ -10,7 +10,6 @@ use Rattle.ord_types.specs.declared.fault.Flaw.TheVariants.{Short, Bad}
 use Rattle.ord_types.specs.declared.fault.Halt.{Halt}
 use Rattle.ord_types.specs.declared.fault.Halt.TheVariants as halt_of
 use Rattle.ord_types.specs.declared.fault.ReadFault.{ReadFault}
-use Rattle.ord_types.specs.declared.fault.ReadFault.TheVariants as fault_of
 use Rattle.ord_types.proofs.Laws.{IsBytes, IsBytes-drop, Law, Spelled, read_again, read_whole, spelled}
 
 abbrev pair : {X : Type 0} → X → ℕ → X × ℕ
