@@ -38,7 +38,6 @@ pub use values::{
     Batch, Block, Cert, Choice, Config, Digest, Header, Kind, Last, Meta, Mode, Place, Proof,
     Report, ReqId, ReqKind, Request, Sig, Vote,
 };
-pub use whole::{read_config, whole_config};
 pub use whole::{
     read_block, read_cert, read_config, read_header, read_meta, read_report, read_request,
     read_sig, whole_block, whole_cert, whole_config, whole_header, whole_meta, whole_report,
