@@ -410,6 +410,15 @@ module _ (b : Before) (node : Node) (outside : Outside) (from : ℕ) (bytes : Li
 pub letter_is : (from : ℕ) (bytes : List ℕ) (m : Message) → message_in bytes ≡ Some m → letter_in from bytes ≡ option_map (λ message. record { from = from; message = message }) (vote_in m)
 letter_is from bytes m is = ap (λ o. option_map (λ message. record { from = from; message = message }) (option_and_then vote_in o)) is
 
+heard_own : (b : Before) (node : Node) (outside : Outside) (from : ℕ) (bytes : List ℕ) (o : Option VoteMessage) → letter_in from bytes ≡ option_map (λ message. record { from = from; message = message }) o → from ≡ node.id → Stands b node outside
+    → Makes b (bytes_begin b node from bytes) act_of.Kept node outside
+heard_own b node outside from bytes None is own h = Makes-silent b node outside from bytes is h
+heard_own b node outside from bytes (Some message) is own h = Makes-own b node outside from bytes (record { from = from; message = message }) is h own
+
+-- a message in the node's own name brings nothing
+pub Makes-heard : (b : Before) (node : Node) (outside : Outside) (from : ℕ) (bytes : List ℕ) (m : Message) → message_in bytes ≡ Some m → from ≡ node.id → Stands b node outside → Makes b (bytes_begin b node from bytes) act_of.Kept node outside
+Makes-heard b node outside from bytes m is own h = heard_own b node outside from bytes (vote_in m) (letter_is from bytes m is) own h
+
 pub no_vote : (m : Message) → ((x : PrePrepare) → m ≡ wire.PrePrepare x → ⊥) → ((x : Prepare) → m ≡ wire.Prepare x → ⊥) → ((x : Commit) → m ≡ wire.Commit x → ⊥) → vote_in m ≡ None
 no_vote (wire.PrePrepare x) p q r = absurd (p x refl)
 no_vote (wire.Prepare x) p q r = absurd (q x refl)
