@@ -154,7 +154,7 @@ fn endings(rt: HostRuntime) -> Result<(), Fail> {
         (
             b"#\ntick x\nflush\n".as_slice(),
             3,
-            b"2 malformed\n".as_slice(),
+            b"2 malformed at 6\n".as_slice(),
         ),
         (
             b"flush\nstop 1 keep\n",
