@@ -3,40 +3,47 @@ ghost use Rattle.std.specs.Int.{w8, w16, w32, w64, to_be_bytes};
 ghost use Rattle.ord_types.specs.Growth.{Grew, grew_nothing, grew_both, Hashed, hashed_nothing, hashed_both};
 
 use crate::lists::{Bytes, NoMemory};
+use byteorder::{BigEndian, ByteOrder};
 use sha2::{Digest as Hasher, Sha256};
 use std::mem;
 
-// Takes the bytes of a spelled value, piece by piece.
-pub(crate) trait Writer {
+/// Takes the bytes of a spelled value, piece by piece.
+pub trait Writer {
     // From the first state to the second it took these bytes.
     ghost took: { Self → Self → List ℕ → Type 0 };
 
-    // Takes these bytes.
+    /// Takes these bytes.
     fn put(&mut self, bytes: &[u8])
         ensures { took self.old self.new bytes.now };
 
     final fn put_u8(&mut self, number: u8)
         ensures { took self.old self.new (to_be_bytes w8 number) }
     {
-        self.put(&number.to_be_bytes());
+        self.put(&[number]);
     }
 
     final fn put_u16(&mut self, number: u16)
         ensures { took self.old self.new (to_be_bytes w16 number) }
     {
-        self.put(&number.to_be_bytes());
+        let mut bytes = [0; 2];
+        BigEndian::write_u16(&mut bytes, number);
+        self.put(&bytes);
     }
 
     final fn put_u32(&mut self, number: u32)
         ensures { took self.old self.new (to_be_bytes w32 number) }
     {
-        self.put(&number.to_be_bytes());
+        let mut bytes = [0; 4];
+        BigEndian::write_u32(&mut bytes, number);
+        self.put(&bytes);
     }
 
     final fn put_u64(&mut self, number: u64)
         ensures { took self.old self.new (to_be_bytes w64 number) }
     {
-        self.put(&number.to_be_bytes());
+        let mut bytes = [0; 8];
+        BigEndian::write_u64(&mut bytes, number);
+        self.put(&bytes);
     }
 
     ghost at_rest: { (a : Self) → took a a [] };
@@ -56,16 +63,16 @@ impl Writer for Sha256 {
     }
 }
 
-// Bytes that take no more once memory has run out.
+/// Bytes that take no more once memory has run out.
 #[derive(Drop)]
-pub(crate) struct Growing {
+pub struct Growing {
     bytes: Bytes,
     ran_out: bool,
 }
 
 impl Growing {
-    // Takes the bytes out, to add to them.
-    pub(crate) fn of(bytes: &mut Bytes) -> Growing
+    /// Takes the bytes out, to add to them.
+    pub fn of(bytes: &mut Bytes) -> Growing
         ensures bytes { result.bytes ≡ bytes.old }
         ensures room { result.ran_out ≡ false }
     {
@@ -75,8 +82,8 @@ impl Growing {
         }
     }
 
-    // Gives the bytes back. Where memory has run out they are cut to what they were.
-    pub(crate) fn give(self, out: &mut Bytes, before: usize) -> Result<(), NoMemory>
+    /// Gives the bytes back. Where memory has run out they are cut to what they were.
+    pub fn give(self, out: &mut Bytes, before: usize) -> Result<(), NoMemory>
         ensures ok { OnOk result ((self.ran_out ≡ false) × (out.new ≡ self.bytes)) }
         ensures err { OnErr result (out.new ≡ take before self.bytes) }
     {
