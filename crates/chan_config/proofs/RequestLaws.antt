@@ -1,6 +1,6 @@
 -- The place at which requests are first unlawful.
 use Rattle.std.proofs.Common.{◌≡◌, ℕ, zero, suc, ◌+◌, ◌<◌, Bool, true, false, not, ◌&&◌, ◌||◌, if◌then◌else◌, List, [], ◌∷◌, length, take, refl, sym, ap, subst, ◌∙◌, arith, add-one, Some, None, inl, inr}
-use Rattle.std.specs.Prelude.{◌↔◌, ◌==◌, Option, nat_lt, nat_le, slice_get}
+use Rattle.std.specs.Prelude.{◌↔◌, Option, nat_lt, nat_le, slice_get}
 use Rattle.std.specs.List.{list_all}
 use Rattle.std.specs.Option.{is_none, option_map_or}
 use Rattle.std.proofs.lemmas.Bool.{both_ways, cases_order, lt-ltb}

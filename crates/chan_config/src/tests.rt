@@ -156,9 +156,10 @@ fn block_of(alloc: Global, made: Made) -> Result<Block, NoMemory> {
     } else {
         meta_hash(&stands)
     };
+    let previous = made.previous;
     let header = Header {
         number: made.number,
-        previous: made.previous,
+        previous,
         content,
         meta,
     };

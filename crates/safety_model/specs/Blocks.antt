@@ -8,7 +8,6 @@ pub use Rattle.chan_config.specs.Blocks.{
   ReqKind,
   Request,
   are_lawful,
-  change_in,
   config_at,
   config_or,
   content_fits,
@@ -27,3 +26,4 @@ pub use Rattle.chan_config.specs.Blocks.{
   meta_fits,
   total_size,
 }
+unfoldable pub use Rattle.chan_config.specs.Blocks.{change_in}
