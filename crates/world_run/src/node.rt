@@ -7,7 +7,7 @@ ghost use Rattle.ord_types.specs.Lengths.{FitsBlock, FitsCert, FitsSig};
 ghost use Rattle.ord_types.specs.declared.values.Proof.TheVariants as proof_of;
 ghost use Rattle.bft_wire.specs.Lengths.{FitsMessage};
 ghost use Rattle.bft_wire.specs.Reading.{message_in};
-ghost use Rattle.view_core.specs.Acts.{FitsAct};
+ghost use Rattle.view_core.specs.Fits.{FitsAct};
 ghost use Rattle.ord_types.specs.Hashes.{block_hash};
 ghost use Rattle.signer_edge.specs.Seals.{SealsOne, next_sig, with_seal};
 ghost use Rattle.bft_wire.specs.declared.message.Message.TheVariants as message_of;
@@ -270,7 +270,7 @@ impl Node {
 
     /// What follows a delivery: the line of the block, and the next place.
     fn deliver(&mut self, block: Block, cert: Cert, outside: &mut Outside) -> Result<(), NoMemory>
-        requires { FitsCert cert }
+        requires { FitsAct (act_of.Deliver block cert) }
         ensures { OnOk result ((b : Before) (m : Making Core) → Makes b m (act_of.Deliver block cert) self.old outside.old → Makes b (makes_delivered core_ways block cert m) act_of.Kept self.new outside.new) }
     {
         if self.place.height + 1 >= MOST_NUMBER || block.meta.decided >= MOST_NUMBER {
