@@ -1,4 +1,5 @@
 pub mod Lengths
 pub mod Messages
+pub mod Placing
 pub mod Reading
 pub mod Spelling

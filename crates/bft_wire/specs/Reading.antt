@@ -157,29 +157,34 @@ raft_block_at bytes = do
   block ← block_at bytes
   Ok (message_of.RaftBlock (record { block = block.0 }), block.1)
 
--- THE KINDS, in the order of their numbers
+-- THE KINDS
 
-abbrev pub bodies : List (Reading Message)
-bodies =
-    preprepare_at ∷ prepare_at ∷ commit_at ∷ view_change_at ∷ view_data_at ∷ new_view_at ∷ heart_beat_at ∷ heart_beat_reply_at ∷ forward_at
-    ∷ block_ask_at ∷ block_reply_at ∷ header_ask_at ∷ header_reply_at ∷ raft_vote_at ∷ raft_vote_reply_at ∷ raft_append_at ∷ raft_append_reply_at
-    ∷ raft_block_at ∷ []
-
--- the body of this place in the list; there is none behind its last one
-abbrev pub body_at : ℕ → List (Reading Message) → ℕ → Reading Message
-body_at left [] n bytes = Err (Bad left)
-body_at left (body ∷ more) zero bytes = body bytes
-body_at left (body ∷ more) (suc n) bytes = body_at left more n bytes
-
--- the body of this kind, counted from 1
-abbrev pub body_of : ℕ → ℕ → Reading Message
-body_of left zero bytes = Err (Bad left)
-body_of left (suc n) bytes = body_at left bodies n bytes
+-- the body of a kind from 1 to 18
+unfoldable pub body_at : ℕ → Reading Message
+body_at kind bytes =
+    if kind == 1 then preprepare_at bytes else
+    (if kind == 2 then prepare_at bytes else
+    (if kind == 3 then commit_at bytes else
+    (if kind == 4 then view_change_at bytes else
+    (if kind == 5 then view_data_at bytes else
+    (if kind == 6 then new_view_at bytes else
+    (if kind == 7 then heart_beat_at bytes else
+    (if kind == 8 then heart_beat_reply_at bytes else
+    (if kind == 9 then forward_at bytes else
+    (if kind == 10 then block_ask_at bytes else
+    (if kind == 11 then block_reply_at bytes else
+    (if kind == 12 then header_ask_at bytes else
+    (if kind == 13 then header_reply_at bytes else
+    (if kind == 14 then raft_vote_at bytes else
+    (if kind == 15 then raft_vote_reply_at bytes else
+    (if kind == 16 then raft_append_at bytes else
+    (if kind == 17 then raft_append_reply_at bytes else
+    raft_block_at bytes))))))))))))))))
 
 unfoldable pub message_at : Reading Message
 message_at bytes = do
-  kind ← number_at w8 bytes
-  body_of (length bytes) kind.0 kind.1
+  kind ← tested_at w8 (λ n. nat_le 1 n && nat_le n 18) bytes
+  body_at kind.0 kind.1
 
 -- what all of the bytes spell, or why they spell nothing
 unfoldable pub decoded : List ℕ → Result Message ReadFault

@@ -1,9 +1,14 @@
 //! The messages between members, and the reasons for which one brings nothing.
 #![tactic(auto)]
 
+mod codec;
+mod decoding;
+mod encoding;
 mod message;
+mod placing;
 mod reason;
 
+pub use codec::{decode, encode, encode_into};
 pub use message::{
     BlockAsk, BlockReply, Commit, Forward, HeaderAsk, HeaderReply, HeartBeat, HeartBeatReply, Message,
     NewView, PrePrepare, Prepare, RaftAppend, RaftAppendReply, RaftBlock, RaftVote, RaftVoteReply,

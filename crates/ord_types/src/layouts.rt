@@ -8,7 +8,8 @@ use crate::lists::List;
 use crate::values::{Batch, Block, Cert, Config, Header, Kind, Meta, Mode, ReqKind, Request, Sig};
 use crate::writing::Writer;
 
-pub(crate) fn write_header<W: Writer>(writer: &mut W, header: &Header)
+/// The spelling of a header.
+pub fn write_header<W: Writer>(writer: &mut W, header: &Header)
     ensures { W.took writer.old writer.new (header_text header.now) }
 {
     writer.put_u64(header.number);
@@ -28,7 +29,8 @@ fn write_ids<W: Writer>(writer: &mut W, ids: &List<u32>)
     }
 }
 
-pub(crate) fn write_meta<W: Writer>(writer: &mut W, meta: &Meta)
+/// The spelling of a meta.
+pub fn write_meta<W: Writer>(writer: &mut W, meta: &Meta)
     requires { FitsMeta meta.now }
     ensures { W.took writer.old writer.new (meta_text meta.now) }
 {
@@ -48,7 +50,8 @@ fn request_kind_number(kind: ReqKind) -> u8
     }
 }
 
-pub(crate) fn write_request<W: Writer>(writer: &mut W, request: &Request)
+/// The spelling of a request.
+pub fn write_request<W: Writer>(writer: &mut W, request: &Request)
     requires { FitsRequest request.now }
     ensures { W.took writer.old writer.new (request_text request.now) }
 {
@@ -60,7 +63,8 @@ pub(crate) fn write_request<W: Writer>(writer: &mut W, request: &Request)
     writer.put(request.payload.as_slice());
 }
 
-pub(crate) fn write_requests<W: Writer>(writer: &mut W, requests: &List<Request>)
+/// The spelling of requests: their count, and one after the other.
+pub fn write_requests<W: Writer>(writer: &mut W, requests: &List<Request>)
     requires { FitsRequests requests.now }
     ensures { W.took writer.old writer.new (requests_text requests.now) }
 {
@@ -98,7 +102,8 @@ fn mode_number(mode: Mode) -> u8
     }
 }
 
-pub(crate) fn write_config<W: Writer>(writer: &mut W, config: &Config)
+/// The spelling of a configuration.
+pub fn write_config<W: Writer>(writer: &mut W, config: &Config)
     requires { FitsConfig config.now }
     ensures { W.took writer.old writer.new (config_text config.now) }
 {
@@ -111,7 +116,8 @@ pub(crate) fn write_config<W: Writer>(writer: &mut W, config: &Config)
     writer.put_u32(config.rotation);
 }
 
-pub(crate) fn write_sig<W: Writer>(writer: &mut W, sig: &Sig)
+/// The spelling of a signature.
+pub fn write_sig<W: Writer>(writer: &mut W, sig: &Sig)
     requires { FitsSig sig.now }
     ensures { W.took writer.old writer.new (sig_text sig.now) }
 {
@@ -121,7 +127,8 @@ pub(crate) fn write_sig<W: Writer>(writer: &mut W, sig: &Sig)
     writer.put(sig.bytes.as_slice());
 }
 
-pub(crate) fn write_cert<W: Writer>(writer: &mut W, cert: &Cert)
+/// The spelling of a certificate.
+pub fn write_cert<W: Writer>(writer: &mut W, cert: &Cert)
     requires { FitsCert cert.now }
     ensures { W.took writer.old writer.new (cert_text cert.now) }
 {
@@ -133,7 +140,8 @@ pub(crate) fn write_cert<W: Writer>(writer: &mut W, cert: &Cert)
     }
 }
 
-pub(crate) fn write_block<W: Writer>(writer: &mut W, block: &Block)
+/// The spelling of a block.
+pub fn write_block<W: Writer>(writer: &mut W, block: &Block)
     requires { FitsBlock block.now }
     ensures { W.took writer.old writer.new (block_text block.now) }
 {

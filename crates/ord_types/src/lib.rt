@@ -20,6 +20,10 @@ mod writing;
 pub use fault::{Flaw, Halt, ReadFault};
 pub use genesis::genesis_block;
 pub use hashes::{block_hash, content_hash, meta_hash};
+pub use layouts::{
+    write_block, write_cert, write_config, write_header, write_meta, write_request, write_requests,
+    write_sig,
+};
 pub use lists::{Bytes, Copied, List, NoMemory};
 pub use members::{fault_bound, majority, quorum};
 pub use memory::{MemSink, MemSource};
@@ -32,3 +36,4 @@ pub use values::{
     Batch, Block, Cert, Choice, Config, Digest, Header, Kind, Last, Meta, Mode, Place, Proof,
     Report, ReqId, ReqKind, Request, Sig, Vote,
 };
+pub use writing::{Growing, Writer};

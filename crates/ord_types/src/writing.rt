@@ -6,12 +6,12 @@ use crate::lists::{Bytes, NoMemory};
 use sha2::{Digest as Hasher, Sha256};
 use std::mem;
 
-// Takes the bytes of a spelled value, piece by piece.
-pub(crate) trait Writer {
+/// Takes the bytes of a spelled value, piece by piece.
+pub trait Writer {
     // From the first state to the second it took these bytes.
     ghost took: { Self → Self → List ℕ → Type 0 };
 
-    // Takes these bytes.
+    /// Takes these bytes.
     fn put(&mut self, bytes: &[u8])
         ensures { took self.old self.new bytes.now };
 
@@ -56,16 +56,16 @@ impl Writer for Sha256 {
     }
 }
 
-// Bytes that take no more once memory has run out.
+/// Bytes that take no more once memory has run out.
 #[derive(Drop)]
-pub(crate) struct Growing {
+pub struct Growing {
     bytes: Bytes,
     ran_out: bool,
 }
 
 impl Growing {
-    // Takes the bytes out, to add to them.
-    pub(crate) fn of(bytes: &mut Bytes) -> Growing
+    /// Takes the bytes out, to add to them.
+    pub fn of(bytes: &mut Bytes) -> Growing
         ensures bytes { result.bytes ≡ bytes.old }
         ensures room { result.ran_out ≡ false }
     {
@@ -75,8 +75,8 @@ impl Growing {
         }
     }
 
-    // Gives the bytes back. Where memory has run out they are cut to what they were.
-    pub(crate) fn give(self, out: &mut Bytes, before: usize) -> Result<(), NoMemory>
+    /// Gives the bytes back. Where memory has run out they are cut to what they were.
+    pub fn give(self, out: &mut Bytes, before: usize) -> Result<(), NoMemory>
         ensures ok { OnOk result ((self.ran_out ≡ false) × (out.new ≡ self.bytes)) }
         ensures err { OnErr result (out.new ≡ take before self.bytes) }
     {

@@ -1,0 +1,4 @@
+use Rattle.bft_wire.proofs.encoding.write_block_or_none.Goals as goal
+
+pub returns-in-Some : goal.returns-in-Some
+returns-in-Some g c = rw c.in-Some.is (g.met.W.Writer.joined _ _ _ _ _ c.put_u8-in-Some.ensures c.write_block.ensures)

@@ -1,0 +1,6 @@
+use Rattle.bft_wire.proofs.encoding.write_header_ask.Goals as goal
+
+pub returns : goal.returns
+returns g c =
+    let join = g.met.W.Writer.joined in
+    join _ _ _ _ _ c.put_u8.ensures c.put_u64.ensures
