@@ -15,7 +15,8 @@ use Rattle.signer_edge.specs.Statements.{commit_text}
 use Rattle.node_model.specs.declared.letter.VoteMessage.TheVariants as message_of
 use Rattle.node_model.specs.declared.letter.Letter.{Letter}
 use Rattle.node_model.specs.Answers.{is_signed}
-use Rattle.node_model.specs.Letters.{VoteMessage, is_commit_for}
+use Rattle.node_model.specs.declared.letter.VoteMessage.{VoteMessage}
+use Rattle.node_model.specs.Letters.{is_commit_for}
 use Rattle.node_model.specs.Leading.{Place}
 use Rattle.node_model.specs.Acts.{View, certificate, commits, delivery_due, first_of, kept_sig, sig_in}
 use Rattle.node_model.specs.Keeping.{is_of_view}

@@ -14,7 +14,8 @@ use Rattle.safety_model.specs.Rules.{is_proof, quorum_of}
 use Rattle.safety_model.proofs.FactTests.{bytes_same}
 use Rattle.node_model.specs.declared.letter.VoteMessage.TheVariants as message_of
 use Rattle.node_model.specs.declared.letter.Letter.{Letter}
-use Rattle.node_model.specs.Letters.{VoteMessage, is_commit_for}
+use Rattle.node_model.specs.declared.letter.VoteMessage.{VoteMessage}
+use Rattle.node_model.specs.Letters.{is_commit_for}
 use Rattle.node_model.specs.Leading.{Place}
 use Rattle.node_model.specs.Checks.{is_next_block}
 use Rattle.node_model.specs.Acts.{View, certificate, commits, delivery_due, delivery_if, first_of, kept_sig, sig_in}

@@ -7,7 +7,8 @@ use Rattle.safety_model.specs.Facts.{Cert, Proof, signers_of}
 use Rattle.safety_model.specs.declared.fact.Fact.{Fact}
 use Rattle.safety_model.specs.declared.fact.Fact.TheVariants.{Accepted, Prepared, Delivered}
 use Rattle.bft_wire.specs.Messages.{HasMessageSpelling}
-use Rattle.node_model.specs.Letters.{VoteMessage, on_wire}
+use Rattle.node_model.specs.declared.letter.VoteMessage.{VoteMessage}
+use Rattle.node_model.specs.Letters.{on_wire}
 
 -- a block at number s that has a spelling, with no more decided before it in its view than stand before it
 pub record FitsAt (s : ℕ) (b : Block) : Type 0 where
@@ -31,7 +32,7 @@ MessageFits m = HasMessageSpelling (on_wire m)
 -- a block that was delivered, and what stands behind it
 pub record DeliveredFits (b : Block) (proof : Proof) : Type 0 where
   pub block : FitsAt b.header.number b
-  pub proof : ProofFits proof
+  pub behind : ProofFits proof
 
 abbrev pub FactFits : Fact → Type 0
 FactFits (Accepted i e v s d) = Unit {0}

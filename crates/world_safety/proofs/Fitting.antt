@@ -1,5 +1,5 @@
 -- An accepted block fits.
-use Rattle.std.proofs.Common.{◌≡◌, ℕ, ◌+◌, ◌<◌, ◌≤◌, ◌^◌, Bool, true, false, ◌||◌, ◌&&◌, List, [], length, cond, refl, sym, subst, ap, ◌∙◌, inl, inr, Option, Some, None, arith}
+use Rattle.std.proofs.Common.{◌≡◌, ℕ, ◌+◌, ◌<◌, ◌≤◌, ◌^◌, Bool, true, false, ◌||◌, ◌&&◌, List, [], ◌∷◌, length, cond, refl, sym, subst, ap, ◌∙◌, inl, inr, Option, Some, None, arith}
 use Rattle.std.specs.Prelude.{◌==◌, not, nat_le, is_none, IfSome}
 use Rattle.std.specs.List.{All, AllByRecursion}
 use Rattle.std.specs.Str.{bytes_eq}
@@ -16,7 +16,8 @@ use Rattle.safety_model.specs.declared.fact.Fact.{Fact}
 use Rattle.signer_edge.specs.Accepts.{Accepts}
 use Rattle.node_model.specs.declared.letter.VoteMessage.TheVariants as message_of
 use Rattle.node_model.specs.declared.letter.Letter.{Letter}
-use Rattle.node_model.specs.Letters.{VoteMessage, PrePrepare, proposal_in}
+use Rattle.node_model.specs.declared.letter.VoteMessage.{VoteMessage}
+use Rattle.node_model.specs.Letters.{PrePrepare, proposal_in}
 use Rattle.node_model.specs.Leading.{Place, is_at_start, leader, meta_eq, next_meta, turn}
 use Rattle.node_model.specs.Checks.{is_block_of_view, is_carried_good, is_next_block, signers_carried}
 use Rattle.node_model.specs.Acts.{View, acceptance_due, block_if, carried_cert, first_of, is_acceptable, is_inside_view, is_voting, kept_proposal, may_propose, proposal, proposed}

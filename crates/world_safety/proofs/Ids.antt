@@ -86,7 +86,7 @@ module _ (f : ℕ → Option Sig) (each : (member : ℕ) (sig : Sig) → f membe
   no_more [] = omega arith
   no_more (x ∷ xs) = step (f x) (no_more xs)
     where
-      step : (o : Option Sig) → length (filter_map f xs) ≤ length xs → length (cons_option o (filter_map f xs)) ≤ length xs + 1
+      step : (o : Option Sig) → length (filter_map f xs) ≤ length xs → length (cons_option o (filter_map f xs)) ≤ suc (length xs)
       step None le = omega arith
       step (Some sig) le = omega arith
 

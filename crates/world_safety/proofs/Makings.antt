@@ -19,7 +19,7 @@ use Rattle.safety_model.proofs.FactTests.{accepted_itself, prepared_itself}
 use Rattle.signer_edge.specs.Accepts.{Accepts}
 use Rattle.signer_edge.specs.Statements.{commit_text}
 use Rattle.bft_wire.specs.Messages.{HasMessageSpelling}
-use Rattle.bft_wire.specs.Spelling.{Message}
+use Rattle.bft_wire.specs.declared.message.Message.{Message}
 use Rattle.bft_wire.specs.declared.message.Message.TheVariants as message_of
 use Rattle.node_model.specs.Leading.{Place}
 use Rattle.node_model.specs.Acts.{View, acceptance_due, delivery_due, preparation_due, proposed}
@@ -230,7 +230,7 @@ module _ (su : Setup) (i : ℕ) (h : History) (honest : IsHonest su) where
       let fits : FitsAt s b = st.node.fits e 0 s b both.0 in
       record {
         block = subst (λ s. FitsAt s b) (sym at) fits;
-        proof = delivery_spelled n.setup (told h m) n.id place (view_in n) b cert (stands n.setup (told h m) n.id n.past st.node) (omega arith) (fits_in m st).members is;
+        behind = delivery_spelled n.setup (told h m) n.id place (view_in n) b cert (stands n.setup (told h m) n.id n.past st.node) (omega arith) (fits_in m st).members is;
       }
 
   deliver_round_stands : (m : Making PastNode) → MakingStands su i h m → (o : Option (Block × Cert)) → delivery_due (place_in m.state) (view_in m.state) ≡ o

@@ -17,11 +17,12 @@ use Rattle.safety_model.specs.Rules.{IsRun, actor}
 use Rattle.safety_model.proofs.FactTests.{bytes_eq_refl}
 use Rattle.safety_model.proofs.Deliveries.{tip_number}
 use Rattle.signer_edge.specs.Accepts.{Accepts}
-use Rattle.bft_wire.specs.Spelling.{Message}
+use Rattle.bft_wire.specs.declared.message.Message.{Message}
 use Rattle.bft_wire.specs.declared.message.Message.TheVariants as wire
 use Rattle.node_model.specs.declared.letter.VoteMessage.TheVariants as message_of
 use Rattle.node_model.specs.declared.letter.Letter.{Letter}
-use Rattle.node_model.specs.Letters.{VoteMessage, Commit, config_in, letter_in, on_wire, same_slot, view_in}
+use Rattle.node_model.specs.declared.letter.VoteMessage.{VoteMessage}
+use Rattle.node_model.specs.Letters.{Commit, config_in, letter_in, on_wire, same_slot, view_in}
 use Rattle.node_model.specs.Answers.{is_near, is_signed}
 use Rattle.node_model.specs.Steps.{Event, Tick, FromMember}
 use Rattle.node_model.specs.Past.{Past, Opened, Came, Did, Signed, accepted_block, facts_of}

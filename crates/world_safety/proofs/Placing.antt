@@ -49,7 +49,7 @@ proof_cert (proof_of.Bft x) cert fits at = let same : x ≡ cert = cc in subst C
 
 last_fits : (h : History) (i : ℕ) → AllByRecursion FactFits h → (cert : Cert) (o : Option (Block × Proof)) → last_delivered i h ≡ o → cert_of_last o ≡ Some cert → CertFits cert
 last_fits h i fit cert None is at = absurd (cc)
-last_fits h i fit cert (Some last) is at = proof_cert last.1 cert (all_stands FactFits h (Delivered i last.0 last.1) fit (last_stands i h last.0 last.1 is)).proof at
+last_fits h i fit cert (Some last) is at = proof_cert last.1 cert (all_stands FactFits h (Delivered i last.0 last.1) fit (last_stands i h last.0 last.1 is)).behind at
 
 -- so the place fits
 pub place_fits : (su : Setup) (h : History) (i : ℕ) (past : Past) → IsHonest su → NodeStands su h i past → IsRun su h → AllByRecursion FactFits h → PlaceFits (place_of su i (facts_of past)) 0

@@ -20,12 +20,14 @@ use Rattle.script.specs.Commands.{AreBytes}
 use Rattle.signer_edge.specs.declared.seals.Seal.{Seal}
 use Rattle.bft_wire.specs.Messages.{HasMessageSpelling}
 use Rattle.bft_wire.specs.Reading.{message_in, message_or_none}
-use Rattle.bft_wire.specs.Spelling.{Message, message_text}
+use Rattle.bft_wire.specs.Spelling.{message_text}
+use Rattle.bft_wire.specs.declared.message.Message.{Message}
 use Rattle.bft_wire.specs.declared.message.Message.TheVariants as wire
 use Rattle.bft_wire.proofs.MessageLaws.{decoded_complete}
 use Rattle.node_model.specs.declared.letter.Letter.{Letter}
 use Rattle.node_model.specs.declared.letter.VoteMessage.TheVariants as message_of
-use Rattle.node_model.specs.Letters.{VoteMessage, letter_in, on_wire, vote_in}
+use Rattle.node_model.specs.declared.letter.VoteMessage.{VoteMessage}
+use Rattle.node_model.specs.Letters.{letter_in, on_wire, vote_in}
 use Rattle.world_model.specs.Pools.{entered, has_id, pool_after, request_in}
 use Rattle.world_model.specs.Turns.{ordinary}
 use Rattle.world_model.specs.Worlds.{Entry, keys_of, letter_from}
@@ -47,7 +49,7 @@ entry_read : (h : History) (e : Entry) → (is : EntryIn h e) → message_in e.b
 entry_read h e is = ap message_or_none (decoded_complete e.bytes is.message (record { grammar = is.good.spelled; text = is.text }))
 
 pub entry_readable : (h : History) (e : Entry) → EntryIn h e → IsReadable e
-entry_readable h e is = subst IsSome (sym (entry_read h e is)) tt
+entry_readable h e is = subst IsSome (sym (entry_read h e is)) refl
 
 pub entry_rests : (h : History) (e : Entry) → EntryIn h e → RestsIn h e
 entry_rests h e is m at =

@@ -23,12 +23,13 @@ use Rattle.signer_edge.specs.Statements.{commit_text}
 use Rattle.signer_edge.specs.declared.seals.Seal.{Seal}
 use Rattle.signer_edge.proofs.CertificateFacts.{is_good_cert-kept}
 use Rattle.signer_edge.proofs.SealFacts.{is_sealed-grown}
-use Rattle.bft_wire.specs.Spelling.{Message}
+use Rattle.bft_wire.specs.declared.message.Message.{Message}
 use Rattle.node_model.specs.declared.letter.VoteMessage.TheVariants as message_of
 use Rattle.node_model.specs.declared.letter.Letter.{Letter}
 use Rattle.node_model.specs.Acts.{acceptance_due, delivery_due, preparation_due, proposed}
 use Rattle.node_model.specs.Answers.{is_near, is_signed}
-use Rattle.node_model.specs.Letters.{VoteMessage, config_in, view_in}
+use Rattle.node_model.specs.declared.letter.VoteMessage.{VoteMessage}
+use Rattle.node_model.specs.Letters.{config_in, view_in}
 use Rattle.node_model.specs.Past.{Past, facts_of}
 use Rattle.node_model.specs.Keeping.{PastNode, is_of_view, is_timely, kept, letter_of, own_commit, past_place, past_view, past_ways, place_of, timely, view_of}
 use Rattle.node_model.specs.Steps.{Event, FromMember, Keys, Making, Tick, accept_round, begins, commit_message, deliver_round, makes_accepted, makes_delivered, makes_prepared, next, own_rule, prepare_round, preprepare_message, propose_round, rounds, votes}

@@ -13,7 +13,8 @@ use Rattle.safety_model.specs.State.{Setup, height, tip, config_of, view, left}
 use Rattle.signer_edge.specs.Accepts.{Accepts}
 use Rattle.node_model.specs.declared.letter.VoteMessage.TheVariants as message_of
 use Rattle.node_model.specs.declared.letter.Letter.{Letter}
-use Rattle.node_model.specs.Letters.{VoteMessage, on_wire}
+use Rattle.node_model.specs.declared.letter.VoteMessage.{VoteMessage}
+use Rattle.node_model.specs.Letters.{on_wire}
 use Rattle.node_model.specs.Leading.{Place}
 use Rattle.node_model.specs.Acts.{View, acceptance_due, delivery_due, preparation_due, proposed}
 use Rattle.node_model.specs.Keeping.{is_of_view}

@@ -15,7 +15,8 @@ use Rattle.signer_edge.specs.Seals.{is_sealed}
 use Rattle.signer_edge.specs.Signing.{KeepsAccepted}
 use Rattle.signer_edge.specs.declared.seals.Seal.{Seal}
 use Rattle.signer_edge.proofs.SealFacts.{is_sealed-grown}
-use Rattle.bft_wire.specs.Spelling.{Message, message_text}
+use Rattle.bft_wire.specs.Spelling.{message_text}
+use Rattle.bft_wire.specs.declared.message.Message.{Message}
 use Rattle.node_model.specs.Past.{Past}
 use Rattle.node_model.specs.Keeping.{PastNode}
 use Rattle.node_model.specs.Steps.{Event, Post}

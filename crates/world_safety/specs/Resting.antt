@@ -3,7 +3,7 @@ use Rattle.std.specs.Prelude.{ℕ, ◌==◌, Bool, false, [], ◌∷◌, if◌th
 use Rattle.ord_types.specs.Hashes.{block_hash}
 use Rattle.safety_model.specs.Facts.{History, has, is_accepted, is_prepared}
 use Rattle.safety_model.specs.Rules.{actor}
-use Rattle.bft_wire.specs.Spelling.{Message}
+use Rattle.bft_wire.specs.declared.message.Message.{Message}
 use Rattle.bft_wire.specs.declared.message.Message.TheVariants as message_of
 
 -- the fact on which a member's message rests stands in the history: an acceptance under a PrePrepare and under a

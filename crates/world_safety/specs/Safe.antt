@@ -10,7 +10,7 @@ use Rattle.safety_model.specs.Safety.{Agreement, NoCollision}
 use Rattle.safety_model.specs.State.{Setup}
 use Rattle.script.specs.Commands.{AreIds}
 use Rattle.bft_wire.specs.Reading.{message_in}
-use Rattle.bft_wire.specs.Spelling.{Message}
+use Rattle.bft_wire.specs.declared.message.Message.{Message}
 use Rattle.node_model.specs.Keeping.{PastNode}
 use Rattle.node_model.specs.Past.{facts_of}
 use Rattle.world_model.specs.Histories.{worlds_of}
