@@ -39,6 +39,7 @@ fn whole_message(alloc: Global, bytes: &[u8]) -> Result<Message, ReadFault>
 pub fn decode(alloc: Global, bytes: &[u8]) -> Result<Message, ReadFault>
     ensures exact { Answers result (decoded bytes.now) }
     ensures found { IfOk result (Spells bytes.now) }
+    ensures fits { IfOk result FitsMessage }
     ensures only { (m : SomeMessage) → Spells bytes.now m → Answers result (Ok m) }
 {
     whole_message(alloc, bytes)

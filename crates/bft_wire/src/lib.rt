@@ -8,6 +8,10 @@ mod laws;
 mod message;
 mod placing;
 mod reason;
+#[cfg(test)]
+mod tests;
+#[cfg(test)]
+mod vectors;
 
 pub use codec::{decode, encode, encode_into};
 pub use laws::{encoded_is_decoded, fronts_are_short, spellings_differ};

@@ -1,4 +1,5 @@
 use Rattle.std.proofs.Common.{arith}
+use Rattle.bft_wire.proofs.Fitting.{fits_found}
 use Rattle.bft_wire.proofs.MessageLaws.{found_of, only_of}
 use Rattle.bft_wire.proofs.codec.decode.Goals as goal
 
@@ -7,3 +8,6 @@ returns-clause-found c = found_of c.args.bytes.now _ (λ i. omega (arith, c.type
 
 pub returns-clause-only : goal.returns-clause-only
 returns-clause-only c = only_of c.args.bytes.now _ c.whole_message.ensures
+
+pub returns-clause-fits : goal.returns-clause-fits
+returns-clause-fits c = fits_found c.args.bytes.now _ (found_of c.args.bytes.now _ (λ i. omega (arith, c.type_inv.bytes i)) c.whole_message.ensures)
