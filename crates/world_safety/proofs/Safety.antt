@@ -1,11 +1,11 @@
 -- Every world of every script is safe.
-use Rattle.std.proofs.Common.{◌≡◌, ℕ, ◌^◌, ◌<◌, true, [], subst, sym, ap, ◌∙◌, Option, Some, None, arith}
+use Rattle.std.proofs.Common.{◌≡◌, ℕ, ◌^◌, ◌<◌, true, [], map, subst, sym, ap, ◌∙◌, Option, Some, None, arith}
 use Rattle.std.specs.List.{AllByRecursion}
 use Rattle.std.proofs.lemmas.List.Elements.{All-from_recursion}
 use Rattle.ord_types.specs.Grammar.{HasBlockSpelling, HasRequestSpelling, IsWord}
 use Rattle.ord_types.specs.Members.{is_in}
 use Rattle.safety_model.specs.Blocks.{Block, Request}
-use Rattle.safety_model.specs.Facts.{History}
+use Rattle.safety_model.specs.Facts.{History, Proof}
 use Rattle.safety_model.specs.Rules.{IsRun, actor}
 use Rattle.safety_model.specs.Safety.{Agreement, AllFit, Fits, NoCollision, RequestFits}
 use Rattle.safety_model.specs.State.{Setup}
@@ -20,6 +20,7 @@ use Rattle.world_safety.specs.Safe.{EveryWorldIsSafe, IsNodeOf, IsReadable, IsSa
 use Rattle.world_safety.proofs.Fits.{FactFits}
 use Rattle.world_safety.proofs.Fitting.{all_stands}
 use Rattle.world_safety.proofs.Lists.{all_map}
+use Rattle.world_safety.proofs.Own.{stored_blocks}
 use Rattle.world_safety.proofs.Reading.{EntryIn, entry_readable, entry_rests}
 use Rattle.world_safety.proofs.Turns.{IsGood, IsGoodIn, worlds_good}
 use Rattle.world_safety.proofs.Worlds.{NodeIn}
@@ -49,7 +50,7 @@ world_safe w is =
     let su = is.setup in
     let good = is.good in
     let here : su ≡ setup_of w = good.first ∙ ap (λ ids. setup_on (first_config ids)) (sym good.members) in
-    let nodes = all_map (NodeIn su w.told w.seals) (IsNodeOf su w.told) (λ node p. record { setup = p.setup; id = p.id; facts = p.stands.own }) w.nodes good.nodes in
+    let nodes = all_map (NodeIn su w.told w.seals) (IsNodeOf su w.told) (λ node p. record { setup = p.setup; id = p.id; facts = p.stands.own; stored = p.stored; blocks = ap (map (λ (entry : Block × Proof). entry.0)) p.stored ∙ stored_blocks su node.id w.told }) w.nodes good.nodes in
     let agreement : NoCollision su w.told → Agreement su w.told = λ apart. runs_agree su w.told good.honest.genesis good.run (all_fit w.told good.fit) apart in
     record {
       members = subst AreIds (sym good.members) good.ids;

@@ -167,7 +167,7 @@ module _ (su : Setup) (number : ℕ) where
         members = with_ids new w.nodes ∙ good.members;
         actors = good.actors;
         nodes = with_new (NodeIn su w.told w.seals) (NodeIn su w.told w.seals) new (λ other not_it before. before)
-            (record { setup = is.setup; id = is.id; member = is.member; stands = is.stands; pool = pool_spelled node.pool bytes fits is.pool; sealed = is.sealed }) w.nodes (nodes_apart su w good) good.nodes;
+            (record { setup = is.setup; id = is.id; member = is.member; stands = is.stands; pool = pool_spelled node.pool bytes fits is.pool; stored = is.stored; sealed = is.sealed }) w.nodes (nodes_apart su w good) good.nodes;
         network = good.network;
         certified = good.certified;
       }
@@ -226,7 +226,7 @@ first_good members are =
       members = same_ids c members;
       actors = tt;
       nodes = all_mapped (NodeIn su [] []) node members
-          (all_map (λ id. is_in id members ≡ true) (λ id. NodeIn su [] [] (node id)) (λ id is. record { setup = refl; id = refl; member = is; stands = opened su id; pool = All-nil HasRequestSpelling; sealed = record { config = refl; letters = tt } }) members (members_in members members (λ id is. is)));
+          (all_map (λ id. is_in id members ≡ true) (λ id. NodeIn su [] [] (node id)) (λ id is. record { setup = refl; id = refl; member = is; stands = opened su id; pool = All-nil HasRequestSpelling; stored = refl; sealed = record { config = refl; letters = tt } }) members (members_in members members (λ id is. is)));
       network = tt;
       certified = tt;
     }

@@ -6,7 +6,9 @@ use Rattle.std.proofs.lemmas.Bool.{eq-eqb, eqb-true, false_from_ne_true}
 use Rattle.std.proofs.lemmas.List.Elements.{All-filter}
 use Rattle.ord_types.specs.Grammar.{Ascend, HasRequestSpelling, IsWord}
 use Rattle.ord_types.specs.Members.{is_in}
-use Rattle.safety_model.specs.Facts.{History}
+use Rattle.ord_types.specs.declared.values.Proof.TheVariants as proof_of
+use Rattle.safety_model.specs.Blocks.{Block}
+use Rattle.safety_model.specs.Facts.{History, Proof}
 use Rattle.safety_model.specs.declared.fact.Fact.{Fact}
 use Rattle.safety_model.specs.State.{Setup}
 use Rattle.safety_model.specs.Rules.{IsRun, actor}
@@ -23,14 +25,15 @@ use Rattle.node_model.specs.Steps.{Event, Post}
 use Rattle.world_model.specs.Histories.{past_setting}
 use Rattle.world_model.specs.Pools.{has_id}
 use Rattle.world_model.specs.Turns.{first_config}
-use Rattle.world_model.specs.Worlds.{Entry, Node, World, keys_of, making, node_after, requests_in, seals_of, sent_by, with_node, world_after}
+use Rattle.world_model.specs.Worlds.{Entry, Node, World, keys_of, making, node_after, requests_in, seals_of, sent_by, stored_in, with_node, world_after}
 use Rattle.world_safety.specs.Certified.{IsCertifiedFact}
 use Rattle.world_safety.specs.Resting.{has_ground}
-use Rattle.world_safety.specs.Safe.{ids_of, setup_on}
+use Rattle.world_safety.specs.Safe.{ids_of, setup_on, stored}
 use Rattle.world_safety.proofs.Lists.{all_append, all_map, all_mapped, all_reverse}
 use Rattle.world_safety.proofs.Fits.{FactFits}
 use Rattle.world_safety.proofs.Ids.{member_has}
 use Rattle.world_safety.proofs.Makings.{IsGoodPost, MakingStands, next_stands, told}
+use Rattle.world_safety.proofs.Own.{own_others, stored_more}
 use Rattle.world_safety.proofs.Placing.{IsHonest}
 use Rattle.world_safety.proofs.Nodes.{IsGoodEvent, NodeStands, ground_more, other_did}
 use Rattle.world_safety.proofs.Reading.{EntryIn, seals_fit}
@@ -43,6 +46,7 @@ pub record NodeIn (su : Setup) (h : History) (box : List Seal) (node : Node Past
   pub member : is_in node.id su.config.members ≡ true
   pub stands : NodeStands su h node.id node.state.past
   pub pool : All HasRequestSpelling node.pool
+  pub stored : node.ledger ≡ stored su node.id h
   pub sealed : IsSealedNode su.config (is_sealed box) node.state
 
 -- no two ids are equal
@@ -83,12 +87,19 @@ ground_over : (h : History) (fs : List Fact) (from : ℕ) (m : Message) → has_
 ground_over h [] from m is = is
 ground_over h (f ∷ fs) from m is = ground_more (fs ++ h) f from m (ground_over h fs from m is)
 
+not_mine : (i j : ℕ) (f : Fact) → (actor f == i) ≡ true → (j == i) ≡ false → (actor f == j) ≡ false
+not_mine i j f mine other =
+    false_from_ne_true (actor f == j) (λ y. let same : actor f ≡ j = eqb-true (actor f) j y in let yes : (j == i) ≡ true = eq-eqb j i (sym same ∙ eqb-true (actor f) i mine) in cc)
+
 other_over : (su : Setup) (h : History) (i j : ℕ) (past : Past) (fs : List Fact) → AllByRecursion (λ f. (actor f == i) ≡ true) fs → (j == i) ≡ false → NodeStands su h j past → NodeStands su (fs ++ h) j past
 other_over su h i j past [] all other st = st
-other_over su h i j past (f ∷ fs) all other st =
-    let is : actor f ≡ i = eqb-true (actor f) i all.0 in
-    let not_mine : (actor f == j) ≡ false = false_from_ne_true (actor f == j) (λ y. let same : actor f ≡ j = eqb-true (actor f) j y in let yes : (j == i) ≡ true = eq-eqb j i (sym same ∙ is) in cc) in
-    other_did su (fs ++ h) j past f not_mine (other_over su h i j past fs all.1 other st)
+other_over su h i j past (f ∷ fs) all other st = other_did su (fs ++ h) j past f (not_mine i j f all.0 other) (other_over su h i j past fs all.1 other st)
+
+-- they change nothing in the ledger of another
+stored_others : (su : Setup) (i j : ℕ) (fs : List Fact) (h : History) → AllByRecursion (λ f. (actor f == i) ≡ true) fs → (j == i) ≡ false → stored su j (fs ++ h) ≡ stored su j h
+stored_others su i j fs h all other =
+    ap (λ (facts : History). (su.genesis, proof_of.Raft) ∷ flat_map stored_in (reverse facts))
+    (own_others j fs h (all_map (λ f. (actor f == i) ≡ true) (λ f. (actor f == j) ≡ false) (λ f is. not_mine i j f is other) fs all))
 
 -- A NODE IN PLACE OF THE ONE OF ITS ID
 
@@ -152,9 +163,18 @@ event_keeps su w node event good is brought =
             member = before.member;
             stands = other_over su h i other.id other.state.past (reverse m.facts) acts not_it before.stands;
             pool = before.pool;
+            stored = before.stored ∙ sym (stored_others su i other.id (reverse m.facts) h acts not_it);
             sealed = node_sealed (is_sealed w.seals) (is_sealed box) grown su.config other.state before.sealed;
           })
-          (record { setup = st.setup; id = st.id; member = is.member; stands = mine; pool = All-filter (λ r. not (has_id r.id delivered)) HasRequestSpelling node.pool is.pool; sealed = sealed.node })
+          (record {
+            setup = st.setup;
+            id = st.id;
+            member = is.member;
+            stands = mine;
+            pool = All-filter (λ r. not (has_id r.id delivered)) HasRequestSpelling node.pool is.pool;
+            stored = ap (λ (entries : List (Block × Proof)). entries ++ flat_map stored_in m.facts) is.stored ∙ sym (stored_more su i m.facts h acts);
+            sealed = sealed.node;
+          })
           w.nodes (nodes_apart su w good) good.nodes;
       network = all_append (EntryIn g) w.network (sent_by i m.posts)
           (all_map (EntryIn h) (EntryIn g) (λ e p. record { message = p.message; text = p.text; good = record { ground = ground_over h (reverse m.facts) e.from p.message p.good.ground; spelled = p.good.spelled } }) w.network good.network) sent;

@@ -1,13 +1,14 @@
 -- What is so of every world of a script: what its nodes did is a run, its messages rest on what their senders did, and so its ledgers agree.
-use Rattle.std.specs.Prelude.{◌≡◌, ℕ, List, [], map, Option, Some, None, IsSome, IsTrue, ⊤}
-use Rattle.std.specs.List.{AllByRecursion}
+use Rattle.std.specs.Prelude.{◌≡◌, ℕ, List, [], ◌∷◌, map, reverse, Option, Some, None, IsSome, IsTrue, ⊤}
+use Rattle.std.specs.List.{AllByRecursion, flat_map}
 use Rattle.ord_types.specs.Genesis.{genesis_block}
 use Rattle.ord_types.specs.Members.{is_in}
-use Rattle.safety_model.specs.Blocks.{Config}
-use Rattle.safety_model.specs.Facts.{History}
+use Rattle.ord_types.specs.declared.values.Proof.TheVariants as proof_of
+use Rattle.safety_model.specs.Blocks.{Block, Config}
+use Rattle.safety_model.specs.Facts.{History, Proof}
 use Rattle.safety_model.specs.Rules.{IsRun, actor}
 use Rattle.safety_model.specs.Safety.{Agreement, NoCollision}
-use Rattle.safety_model.specs.State.{Setup}
+use Rattle.safety_model.specs.State.{Setup, ledger}
 use Rattle.script.specs.Commands.{AreIds}
 use Rattle.bft_wire.specs.Reading.{message_in}
 use Rattle.bft_wire.specs.declared.message.Message.{Message}
@@ -15,7 +16,7 @@ use Rattle.node_model.specs.Keeping.{PastNode}
 use Rattle.node_model.specs.Past.{facts_of}
 use Rattle.world_model.specs.Histories.{worlds_of}
 use Rattle.world_model.specs.Turns.{first_config}
-use Rattle.world_model.specs.Worlds.{Entry, Node, World}
+use Rattle.world_model.specs.Worlds.{Entry, Node, World, stored_in}
 use Rattle.world_safety.specs.Resting.{has_ground, own}
 
 abbrev pub ids_of : List (Node PastNode) → List ℕ
@@ -29,11 +30,18 @@ setup_on c = record { genesis = genesis_block c; config = c; byzantine = [] }
 abbrev pub setup_of : World PastNode History → Setup
 setup_of w = setup_on (first_config (ids_of w.nodes))
 
--- a node of the world: the list of all facts has its own facts in their order
+-- what a node has stored by the history: block 0 and what it delivered, each block with what stands behind it
+abbrev pub stored : Setup → ℕ → History → List (Block × Proof)
+stored su i h = (su.genesis, proof_of.Raft) ∷ flat_map stored_in (reverse (own i h))
+
+-- A node of the world: the list of all facts has its own facts in their order, and what it shows of its ledger is what it
+-- delivered, the blocks of the ledger by the history.
 pub record IsNodeOf (su : Setup) (told : History) (node : Node PastNode) : Type 0 where
   pub setup : node.state.setup ≡ su
   pub id : node.state.id ≡ node.id
   pub facts : own node.id told ≡ facts_of node.state.past
+  pub stored : node.ledger ≡ stored su node.id told
+  pub blocks : map (λ entry. entry.0) node.ledger ≡ ledger su node.id told
 
 -- what was sent can be read: its bytes spell a message
 abbrev pub IsReadable : Entry → Type 0
