@@ -1,5 +1,5 @@
 -- An accepted block fits.
-use Rattle.std.proofs.Common.{◌≡◌, ℕ, ◌+◌, ◌<◌, ◌≤◌, ◌^◌, Bool, true, false, ◌||◌, ◌&&◌, List, [], ◌∷◌, length, cond, refl, sym, subst, ap, ◌∙◌, inl, inr, Option, Some, None, arith}
+use Rattle.std.proofs.Common.{◌≡◌, ℕ, ◌+◌, ◌≤◌, Bool, true, false, ◌||◌, ◌&&◌, List, [], ◌∷◌, length, cond, refl, sym, subst, ap, ◌∙◌, inl, inr, Option, Some, None, arith}
 use Rattle.std.specs.Prelude.{◌==◌, not, nat_le, is_none, IfSome}
 use Rattle.std.specs.List.{All, AllByRecursion}
 use Rattle.std.specs.Str.{bytes_eq}
@@ -9,7 +9,7 @@ use Rattle.sha2.proofs.Facts256.{length-sha256}
 use Rattle.ord_types.specs.Grammar.{HasCertSpelling, HasIdsSpelling, HasRequestSpelling, IsDigest, IsNumber}
 use Rattle.ord_types.specs.Hashes.{content_hash, meta_hash}
 use Rattle.ord_types.specs.declared.values.Cert.{Cert}
-use Rattle.safety_model.specs.Blocks.{Block, Meta, Request}
+use Rattle.safety_model.specs.Blocks.{Block, Request}
 use Rattle.safety_model.specs.Facts.{History, Stands}
 use Rattle.safety_model.specs.State.{Setup}
 use Rattle.safety_model.specs.declared.fact.Fact.{Fact}

@@ -1,5 +1,5 @@
 -- What comes as bytes: the vote message of an entry, and the request for a pool.
-use Rattle.std.proofs.Common.{◌≡◌, ℕ, zero, suc, ◌<◌, ◌≤◌, Bool, true, false, ◌||◌, ◌&&◌, List, [], ◌∷◌, ◌++◌, length, get_or, cond, refl, sym, subst, ap, ◌∙◌, Option, Some, None, Result, Ok, Err, arith}
+use Rattle.std.proofs.Common.{◌≡◌, ℕ, zero, suc, Bool, true, false, ◌&&◌, List, [], ◌∷◌, ◌++◌, length, cond, refl, sym, subst, ap, ◌∙◌, Option, Some, None, Result, Ok, Err, arith}
 use Rattle.std.specs.Prelude.{IsSome, not, option_and_then, option_map}
 use Rattle.std.specs.Int.{w8, w32, w64, to_be_bytes}
 use Rattle.std.specs.List.{All}
@@ -27,7 +27,7 @@ use Rattle.bft_wire.proofs.MessageLaws.{decoded_complete}
 use Rattle.node_model.specs.declared.letter.Letter.{Letter}
 use Rattle.node_model.specs.declared.letter.VoteMessage.TheVariants as message_of
 use Rattle.node_model.specs.declared.letter.VoteMessage.{VoteMessage}
-use Rattle.node_model.specs.Letters.{letter_in, on_wire, vote_in}
+use Rattle.node_model.specs.Letters.{on_wire, vote_in}
 use Rattle.world_model.specs.Pools.{entered, has_id, pool_after, request_in}
 use Rattle.world_model.specs.Turns.{ordinary}
 use Rattle.world_model.specs.Worlds.{Entry, keys_of, letter_from}
@@ -35,7 +35,7 @@ use Rattle.world_safety.specs.Resting.{has_ground}
 use Rattle.world_safety.specs.Safe.{IsReadable, RestsIn}
 use Rattle.world_safety.proofs.Delivering.{some_same}
 use Rattle.world_safety.proofs.Makings.{IsGoodMessage, SignsFit}
-use Rattle.world_safety.proofs.Nodes.{IsBrought, IsGoodEvent}
+use Rattle.world_safety.proofs.Nodes.{IsGoodEvent}
 
 -- ENTRIES
 

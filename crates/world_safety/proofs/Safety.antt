@@ -1,5 +1,5 @@
 -- Every world of every script is safe.
-use Rattle.std.proofs.Common.{◌≡◌, ℕ, ◌^◌, ◌<◌, true, [], map, subst, sym, ap, ◌∙◌, Option, Some, None, arith}
+use Rattle.std.proofs.Common.{◌≡◌, true, [], map, subst, sym, ap, ◌∙◌, Option, Some, None, arith}
 use Rattle.std.specs.List.{AllByRecursion}
 use Rattle.std.proofs.lemmas.List.Elements.{All-from_recursion}
 use Rattle.ord_types.specs.Grammar.{HasBlockSpelling, HasRequestSpelling, IsWord}

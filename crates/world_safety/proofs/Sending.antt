@@ -1,5 +1,5 @@
 -- The messages that a node sends have a spelling.
-use Rattle.std.proofs.Common.{ℕ, ◌<◌, ◌^◌, List, sym, subst, arith}
+use Rattle.std.proofs.Common.{ℕ, List, sym, subst, arith}
 use Rattle.sha2.proofs.Facts256.{length-sha256}
 use Rattle.ord_types.specs.Grammar.{HasSigSpelling, IsDigest, IsNumber}
 use Rattle.ord_types.specs.Hashes.{header_hash, block_hash}

@@ -1,5 +1,5 @@
 -- Every line of a script keeps a good world.
-use Rattle.std.proofs.Common.{◌≡◌, ℕ, zero, suc, ◌+◌, ◌-◌, ◌^◌, ◌<◌, ◌≤◌, Bool, true, false, List, [], ◌∷◌, ◌++◌, length, map, cond, refl, subst, ap, ◌∙◌, Option, Some, None, Result, Ok, Err, arith}
+use Rattle.std.proofs.Common.{◌≡◌, ℕ, zero, suc, ◌+◌, ◌-◌, Bool, true, false, List, [], ◌∷◌, ◌++◌, length, map, cond, refl, subst, ap, ◌∙◌, Option, Some, None, Result, Ok, Err, arith}
 use Rattle.std.specs.Prelude.{◌==◌, nat_lt, IfOk, codes, position, slice_get}
 use Rattle.std.specs.List.{All, AllByRecursion, flat_map}
 use Rattle.std.proofs.lemmas.Bool.{eq-eqb, or_left, or_right}
@@ -10,7 +10,7 @@ use Rattle.ord_types.specs.Spelling.{request_text}
 use Rattle.ord_types.proofs.Laws.{IsBytes}
 use Rattle.ord_types.specs.Genesis.{genesis_block}
 use Rattle.ord_types.specs.declared.values.Proof.TheVariants as proof_of
-use Rattle.safety_model.specs.Blocks.{Block, Config, Request}
+use Rattle.safety_model.specs.Blocks.{Block, Config}
 use Rattle.safety_model.specs.Facts.{History, Proof}
 use Rattle.safety_model.specs.State.{Setup}
 use Rattle.line_flow.specs.Lines.{lines}

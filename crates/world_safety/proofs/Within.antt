@@ -1,5 +1,5 @@
 -- All worlds of every script are safe, those within its lines too.
-use Rattle.std.proofs.Common.{◌≡◌, ℕ, zero, suc, ◌+◌, ◌-◌, Bool, true, false, List, [], ◌∷◌, length, cond, refl, sym, subst, ap, Option, Some, None, Result, Ok, Err, arith}
+use Rattle.std.proofs.Common.{◌≡◌, ℕ, zero, suc, ◌+◌, ◌-◌, Bool, true, false, List, [], ◌∷◌, length, cond, refl, sym, subst, ap, Option, Some, None, Result, Ok, Err}
 use Rattle.std.specs.Prelude.{◌==◌, IfOk, codes, nat_lt, position, slice_get}
 use Rattle.std.specs.List.{AllByRecursion}
 use Rattle.ord_types.specs.Spelling.{request_text}
@@ -17,7 +17,7 @@ use Rattle.script.specs.declared.command.Range.{Range}
 use Rattle.script.proofs.CommandLemmas.{meaning_fits}
 use Rattle.script_play.specs.declared.ending.Ending.{Ending}
 use Rattle.script_play.specs.Runs.{line_turn, max_line, max_lines}
-use Rattle.script_play.specs.Worlds.{Keeps, worlds, worlds_after}
+use Rattle.script_play.specs.Worlds.{worlds, worlds_after}
 use Rattle.script_play.proofs.WorldLemmas.{worlds_keep}
 use Rattle.node_model.specs.Keeping.{PastNode}
 use Rattle.world_model.specs.Histories.{past_setting}
