@@ -1,7 +1,7 @@
 //! A node of the world, and its steps.
 ghost use Rattle.std.specs.Prelude.{◌≡◌, ◌≢◌, ◌∷◌, ◌++◌, [], ◌<◌, ◌≤◌, ◌^◌, IfOk, OnOk, Some, None, length, map, string_bytes, suc, zero};
 ghost use Rattle.std.specs.List.{flat_map};
-ghost use Rattle.std.specs.Prelude.{ℕ, IfSome, List as Items};
+ghost use Rattle.std.specs.Prelude.{ℕ, IfSome, List as Items, option_copied, slice_get};
 ghost use Rattle.ord_types.specs.Genesis.{IsGenesisConfig, genesis_block};
 ghost use Rattle.ord_types.specs.Lengths.{FitsBlock, FitsCert, FitsSig};
 ghost use Rattle.ord_types.specs.declared.values.Proof.TheVariants as proof_of;
@@ -95,7 +95,7 @@ fn first_place(config: &Config, genesis: &Block) -> Result<Place, NoMemory>
 
 /// The certificate that a proposal carries.
 fn carried_cert(place: &Place) -> Result<Option<Cert>, NoMemory>
-    requires { IfSome place.now.last_cert FitsCert }
+    requires { IsPlace place.now }
     ensures cert { IfOk result (λ cert. cert ≡ carried_cert place.now) }
     ensures fits { IfOk result (λ cert. IfSome cert FitsCert) }
 {
