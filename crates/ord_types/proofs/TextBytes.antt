@@ -81,8 +81,8 @@ bytes-batch b = four (to_be_bytes w32 b.count) (to_be_bytes w32 b.preferred) (to
 pub bytes-config : (c : Config) → IsBytes (config_text c)
 bytes-config c =
     three (to_be_bytes w8 1 ++ to_be_bytes w64 c.number ++ to_be_bytes w8 (kind_number c.kind) ++ to_be_bytes w8 (mode_number c.mode) ++ ids_text c.members) (batch_text c.batch) (to_be_bytes w32 c.rotation)
-      (five (to_be_bytes w8 1) (to_be_bytes w64 c.number) (to_be_bytes w8 (kind_number c.kind)) (to_be_bytes w8 (mode_number c.mode)) (ids_text c.members) (bytes8 1) (bytes64 c.number) (bytes8 (kind_number c.kind)) (bytes8 (mode_number c.mode)) (bytes-ids c.members))
-      (bytes-batch c.batch) (bytes32 c.rotation)
+    (five (to_be_bytes w8 1) (to_be_bytes w64 c.number) (to_be_bytes w8 (kind_number c.kind)) (to_be_bytes w8 (mode_number c.mode)) (ids_text c.members) (bytes8 1) (bytes64 c.number) (bytes8 (kind_number c.kind)) (bytes8 (mode_number c.mode)) (bytes-ids c.members))
+    (bytes-batch c.batch) (bytes32 c.rotation)
 
 pub bytes-sig : (s : Sig) → IsBytes s.bytes → IsBytes (sig_text s)
 bytes-sig s h = three (to_be_bytes w32 s.signer) (to_be_bytes w16 (length s.bytes)) s.bytes (bytes32 s.signer) (bytes16 (length s.bytes)) h
@@ -101,7 +101,7 @@ bytes-cert c h = three (to_be_bytes w64 c.view) (to_be_bytes w8 (length c.sigs))
 pub bytes-request : (r : Request) → IsBytes r.payload → IsBytes (request_text r)
 bytes-request r h =
     five (to_be_bytes w8 (request_kind_number r.kind)) (to_be_bytes w32 r.id.client) (to_be_bytes w64 r.id.serial) (to_be_bytes w32 (length r.payload)) r.payload
-      (bytes8 (request_kind_number r.kind)) (bytes32 r.id.client) (bytes64 r.id.serial) (bytes32 (length r.payload)) h
+    (bytes8 (request_kind_number r.kind)) (bytes32 r.id.client) (bytes64 r.id.serial) (bytes32 (length r.payload)) h
 
 -- the payloads are bytes
 abbrev pub ArePayloadBytes : List Request → Type 0
@@ -161,8 +161,8 @@ each-vote (v ∷ votes) h = (bytes-vote v h.0, each-vote votes h.1)
 pub bytes-report : (r : Report) → AreReportBytes r → IsBytes (report_text r)
 bytes-report r h =
     five (to_be_bytes w64 r.height) (option_text last_text r.last) (option_text vote_text r.prepared) (to_be_bytes w8 (length r.accepted)) (flat_map vote_text r.accepted)
-      (bytes64 r.height) (bytes-option last_text r.last (last-some r.last h.last)) (bytes-option vote_text r.prepared (vote-some r.prepared h.prepared)) (bytes8 (length r.accepted))
-      (bytes-each vote_text r.accepted (each-vote r.accepted h.accepted))
+    (bytes64 r.height) (bytes-option last_text r.last (last-some r.last h.last)) (bytes-option vote_text r.prepared (vote-some r.prepared h.prepared)) (bytes8 (length r.accepted))
+    (bytes-each vote_text r.accepted (each-vote r.accepted h.accepted))
 
 abbrev pub AreProofBytes : Proof → Type 0
 AreProofBytes proof_of.Raft = Unit {0}

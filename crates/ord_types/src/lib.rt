@@ -9,6 +9,8 @@ mod lists;
 mod members;
 mod memory;
 mod outside;
+#[cfg(test)]
+mod read_tests;
 mod reader;
 mod reading;
 mod spelling;
