@@ -189,6 +189,7 @@ fn fields_that_break_their_rule(rt: HostRuntime) -> Result<(), Fail> {
 }
 
 #[test]
+#[tactic(auto, using(crate::proofs::Fitting::fits_report))]
 fn put_again(rt: HostRuntime) -> Result<(), Fail> {
     let mut out = Bytes::new(rt.alloc());
     if let Ok(report) = whole_report(rt.alloc(), &REPORT) {
