@@ -1,1 +1,3 @@
+pub mod Fitting
 pub mod Loops
+pub mod MessageLaws

@@ -1,10 +1,11 @@
 //! Messages as bytes, and back.
 ghost use Rattle.std.specs.Prelude.{◌≡◌, ◌+◌, ◌-◌, ◌^◌, ◌<◌, ◌≤◌, ◌++◌, length, drop, min, IfOk, IfSome, IfNone, OnOk, OnErr};
 ghost use Rattle.ord_types.specs.Faults.{Answers};
+ghost use Rattle.bft_wire.specs.Messages.{Spells};
 ghost use Rattle.bft_wire.specs.Lengths.{FitsMessage};
 ghost use Rattle.bft_wire.specs.Placing.{IsCount};
 ghost use Rattle.bft_wire.specs.Reading.{decoded};
-ghost use Rattle.bft_wire.specs.Spelling.{message_text};
+ghost use Rattle.bft_wire.specs.Spelling.{Message as SomeMessage, message_text};
 
 use crate::decoding::message;
 use crate::encoding::write_message;
@@ -13,21 +14,35 @@ use crate::placing::{Counting, Placing};
 use ord_types::{Bytes, Flaw, Growing, Halt, NoMemory, ReadFault, Reader};
 use std::alloc::Global;
 
-/// The message that the bytes spell. A fault tells the place: `Short` the length of the bytes, where they end
-/// inside the message; `BadField` the first byte of the first field that breaks its rule; `Trailing` the first
-/// byte behind the message.
+// The message that all of the bytes are.
 #[tactic(auto, unfolding(crate::specs::Reading::decoded))]
-pub fn decode(alloc: Global, bytes: &[u8]) -> Result<Message, ReadFault>
-    ensures exact { Answers result (decoded bytes.now) }
+fn whole_message(alloc: Global, bytes: &[u8]) -> Result<Message, ReadFault>
+    ensures { Answers result (decoded bytes.now) }
 {
     let mut reader = Reader::new(bytes);
     match message(&mut reader, alloc) {
-        Ok(_) if reader.left() > 0 => Err(ReadFault::Trailing(bytes.len().saturating_sub(reader.left()))),
+        Ok(_) if reader.left() > 0 => Err(ReadFault::Trailing(
+            bytes.len().saturating_sub(reader.left()),
+        )),
         Ok(message) => Ok(message),
         Err(Halt::Flawed(Flaw::Short)) => Err(ReadFault::Short(bytes.len())),
-        Err(Halt::Flawed(Flaw::Bad(left))) => Err(ReadFault::BadField(bytes.len().saturating_sub(left))),
+        Err(Halt::Flawed(Flaw::Bad(left))) => Err(ReadFault::BadField(
+            bytes.len().saturating_sub(left),
+        )),
         Err(Halt::NoMemory) => Err(ReadFault::NoMemory),
     }
+}
+
+/// The message that the bytes spell. A fault tells the place: `Short` the length of the bytes, where they end
+/// inside the message; `BadField` the first byte of the first field that breaks its rule; `Trailing` the first
+/// byte behind the message.
+pub fn decode(alloc: Global, bytes: &[u8]) -> Result<Message, ReadFault>
+    ensures exact { Answers result (decoded bytes.now) }
+    ensures found { IfOk result (Spells bytes.now) }
+    ensures fits { IfOk result FitsMessage }
+    ensures only { (m : SomeMessage) → Spells bytes.now m → Answers result (Ok m) }
+{
+    whole_message(alloc, bytes)
 }
 
 /// Adds the spelling of a message.

@@ -29,9 +29,9 @@ ghost use Rattle.bft_wire.specs.Reading.{
 ghost use Rattle.ord_types.specs.Reading.{header_at, list_at};
 
 use crate::message::{
-    BlockAsk, BlockReply, Commit, Forward, HeaderAsk, HeaderReply, HeartBeat, HeartBeatReply, Message,
-    NewView, PrePrepare, Prepare, RaftAppend, RaftAppendReply, RaftBlock, RaftVote, RaftVoteReply,
-    Signed, ViewChange, ViewData,
+    BlockAsk, BlockReply, Commit, Forward, HeaderAsk, HeaderReply, HeartBeat, HeartBeatReply,
+    Message, NewView, PrePrepare, Prepare, RaftAppend, RaftAppendReply, RaftBlock, RaftVote,
+    RaftVoteReply, Signed, ViewChange, ViewData,
 };
 use ord_types::{Halt, Header, List, Reader};
 use std::alloc::Global;

@@ -7,12 +7,13 @@ ghost use Rattle.bft_wire.specs.Lengths.{FitsBlockReply, FitsMessage, FitsNewVie
 ghost use Rattle.bft_wire.specs.Spelling.{flag_text, message_text, signed_text};
 
 use crate::message::{
-    BlockAsk, BlockReply, Commit, Forward, HeaderAsk, HeaderReply, HeartBeat, HeartBeatReply, Message,
-    NewView, PrePrepare, Prepare, RaftAppend, RaftAppendReply, RaftBlock, RaftVote, RaftVoteReply,
-    Signed, ViewChange, ViewData,
+    BlockAsk, BlockReply, Commit, Forward, HeaderAsk, HeaderReply, HeartBeat, HeartBeatReply,
+    Message, NewView, PrePrepare, Prepare, RaftAppend, RaftAppendReply, RaftBlock, RaftVote,
+    RaftVoteReply, Signed, ViewChange, ViewData,
 };
 use ord_types::{
-    Block, Cert, Header, Last, List, Report, Vote, Writer, write_block, write_cert, write_header, write_request, write_sig,
+    Block, Cert, Header, Last, List, Report, Vote, Writer, write_block, write_cert, write_header,
+    write_request, write_sig,
 };
 
 fn write_vote<W: Writer>(writer: &mut W, vote: &Vote)

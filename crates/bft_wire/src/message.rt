@@ -197,11 +197,103 @@ impl Copied for Commit {
     }
 }
 
+impl Copied for ViewData {
+    fn copy(&self) -> Result<ViewData, NoMemory> {
+        Ok(ViewData {
+            config: self.config,
+            view: self.view,
+            report: self.report.copy()?,
+            sig: self.sig.copy()?,
+            block: self.block.copy()?,
+        })
+    }
+}
+
 impl Copied for Signed {
     fn copy(&self) -> Result<Signed, NoMemory> {
         Ok(Signed {
             report: self.report.copy()?,
             sig: self.sig.copy()?,
+        })
+    }
+}
+
+impl Copied for NewView {
+    fn copy(&self) -> Result<NewView, NoMemory> {
+        Ok(NewView {
+            config: self.config,
+            view: self.view,
+            reports: self.reports.copy()?,
+            block: self.block.copy()?,
+        })
+    }
+}
+
+impl Copied for Forward {
+    fn copy(&self) -> Result<Forward, NoMemory> {
+        Ok(Forward {
+            request: self.request.copy()?,
+        })
+    }
+}
+
+impl Copied for BlockReply {
+    fn copy(&self) -> Result<BlockReply, NoMemory> {
+        Ok(BlockReply {
+            block: self.block.copy()?,
+            cert: self.cert.copy()?,
+        })
+    }
+}
+
+impl Copied for HeaderReply {
+    fn copy(&self) -> Result<HeaderReply, NoMemory> {
+        Ok(HeaderReply {
+            headers: self.headers.copy()?,
+        })
+    }
+}
+
+impl Copied for RaftAppend {
+    fn copy(&self) -> Result<RaftAppend, NoMemory> {
+        Ok(RaftAppend {
+            term: self.term,
+            height: self.height,
+            last: self.last,
+            block: self.block.copy()?,
+        })
+    }
+}
+
+impl Copied for RaftBlock {
+    fn copy(&self) -> Result<RaftBlock, NoMemory> {
+        Ok(RaftBlock {
+            block: self.block.copy()?,
+        })
+    }
+}
+
+impl Copied for Message {
+    fn copy(&self) -> Result<Message, NoMemory> {
+        Ok(match self {
+            Message::PrePrepare(message) => Message::PrePrepare(message.copy()?),
+            Message::Prepare(message) => Message::Prepare(*message),
+            Message::Commit(message) => Message::Commit(message.copy()?),
+            Message::ViewChange(message) => Message::ViewChange(*message),
+            Message::ViewData(message) => Message::ViewData(message.copy()?),
+            Message::NewView(message) => Message::NewView(message.copy()?),
+            Message::HeartBeat(message) => Message::HeartBeat(*message),
+            Message::HeartBeatReply(message) => Message::HeartBeatReply(*message),
+            Message::Forward(message) => Message::Forward(message.copy()?),
+            Message::BlockAsk(message) => Message::BlockAsk(*message),
+            Message::BlockReply(message) => Message::BlockReply(message.copy()?),
+            Message::HeaderAsk(message) => Message::HeaderAsk(*message),
+            Message::HeaderReply(message) => Message::HeaderReply(message.copy()?),
+            Message::RaftVote(message) => Message::RaftVote(*message),
+            Message::RaftVoteReply(message) => Message::RaftVoteReply(*message),
+            Message::RaftAppend(message) => Message::RaftAppend(message.copy()?),
+            Message::RaftAppendReply(message) => Message::RaftAppendReply(*message),
+            Message::RaftBlock(message) => Message::RaftBlock(message.copy()?),
         })
     }
 }
