@@ -1,5 +1,5 @@
 -- Lemmas on a past with nothing ahead of its height: each way of going on keeps it so.
-use Rattle.std.proofs.Common.{◌≡◌, ℕ, ◌+◌, ◌<◌, ◌≤◌, Bool, true, false, cond, not, ◌&&◌, ◌||◌, eqb, List, [], ◌∷◌, ◌++◌, filter, length, ap, ◌∙◌, refl, arith, Some, le_trans}
+use Rattle.std.proofs.Common.{Option, Some, None, ◌≡◌, ℕ, ◌+◌, ◌<◌, ◌≤◌, Bool, true, false, cond, not, ◌&&◌, ◌||◌, eqb, List, [], ◌∷◌, ◌++◌, filter, length, ap, ◌∙◌, refl, arith, Some, le_trans}
 use Rattle.std.proofs.lemmas.Bool.{eq-eqb}
 use Rattle.std.proofs.lemmas.Bool.Decides.{nat_tests}
 use Rattle.std.proofs.lemmas.List.{append-nil, length_push}
@@ -12,11 +12,11 @@ use Rattle.safety_model.specs.Facts.{History, has}
 use Rattle.safety_model.specs.State.{Setup, config_of, delivered, height, is_inside}
 use Rattle.safety_model.specs.declared.fact.Fact.TheVariants.{Prepared}
 use Rattle.signer_edge.specs.Accepts.{Accepts}
-use Rattle.node_model.specs.Letters.{Letter, Commit, config_in, view_in, number_in}
+use Rattle.node_model.specs.Letters.{Letter, letter_in, Commit, config_in, view_in, number_in}
 use Rattle.node_model.specs.Answers.{is_near, is_signed}
 use Rattle.node_model.specs.Steps.{Event, Tick, FromMember}
 use Rattle.node_model.specs.Past.{accepted_block, facts_of}
-use Rattle.node_model.specs.Keeping.{PastNode, is_prepared_at, is_timely, letter_of, own_commit, past_accepts, past_comes, past_delivers, past_opens, past_prepares, past_place, past_view, timely}
+use Rattle.node_model.specs.Keeping.{PastNode, is_prepared_at, is_timely, letter_of, of_another, own_commit, past_accepts, past_comes, past_delivers, past_opens, past_prepares, past_place, past_view, timely}
 use Rattle.node_model.specs.Seen.{IsAtMost, NothingAhead}
 use Rattle.node_model.proofs.PastLemmas.{height_here}
 
@@ -57,10 +57,15 @@ unless_own : (su : Setup) (i : ℕ) (h : History) (accepts : Accepts) (l : Lette
 unless_own su i h accepts l ms true all = all
 unless_own su i h accepts l ms false all = letter_all su i h accepts l ms all
 
+came_all : (su : Setup) (i : ℕ) (h : History) (accepts : Accepts) (o : Option Letter) (ms : List Letter) → AllByRecursion (IsAtMost (height i h + 1)) ms
+    → AllByRecursion (IsAtMost (height i h + 1)) (filter (is_timely su i h accepts) (of_another i o) ++ ms)
+came_all su i h accepts None ms all = all
+came_all su i h accepts (Some l) ms all = unless_own su i h accepts l ms (eqb l.from i) all
+
 heard_all : (su : Setup) (i : ℕ) (h : History) (accepts : Accepts) (event : Event) (ms : List Letter) → AllByRecursion (IsAtMost (height i h + 1)) ms
     → AllByRecursion (IsAtMost (height i h + 1)) (filter (is_timely su i h accepts) (letter_of i event) ++ ms)
 heard_all su i h accepts (Tick offer) ms all = all
-heard_all su i h accepts (FromMember l) ms all = unless_own su i h accepts l ms (eqb l.from i) all
+heard_all su i h accepts (FromMember from bytes) ms all = came_all su i h accepts (letter_in from bytes) ms all
 
 pub ahead_comes : (event : Event) (accepts : Accepts) (n : PastNode) → NothingAhead n → NothingAhead (past_comes event accepts n)
 ahead_comes event accepts n ahead =

@@ -22,14 +22,14 @@ use Rattle.safety_model.specs.declared.fact.Fact.TheVariants.{Accepted, Prepared
 use Rattle.signer_edge.specs.Accepts.{Accepts}
 use Rattle.bft_wire.specs.declared.reason.Reason.{Reason}
 use Rattle.bft_wire.specs.declared.reason.Reason.TheVariants as reason
-use Rattle.node_model.specs.Letters.{Letter, Commit, config_in, view_in, number_in, same_slot}
+use Rattle.node_model.specs.Letters.{Letter, letter_in, Commit, config_in, view_in, number_in, same_slot}
 use Rattle.node_model.specs.Leading.{Place}
 use Rattle.node_model.specs.Acts.{View}
 use Rattle.node_model.specs.Answers.{is_near, is_signed, first_reason, stands_outside, is_new, is_repeat, keep, kept_after, at_place, raised, fresh}
 use Rattle.node_model.specs.Steps.{Event, Tick, FromMember}
-use Rattle.node_model.specs.Cores.{Core, core_opens, core_comes, core_accepts, core_prepares, core_delivers, next_place}
+use Rattle.node_model.specs.Cores.{Core, core_opens, core_comes, core_hears, core_accepts, core_prepares, core_delivers, next_place}
 use Rattle.node_model.specs.Past.{Past, Came, Did, Signed, accepted_block, facts_of}
-use Rattle.node_model.specs.Keeping.{PastNode, firsts, is_of_view, is_prepared_at, is_timely, own_commit, past_accepts, past_comes, past_delivers, past_opens, past_prepares, past_place, past_view, place_of, start_after, timely, view_of, cert_of_last}
+use Rattle.node_model.specs.Keeping.{of_another, PastNode, firsts, is_of_view, is_prepared_at, is_timely, own_commit, past_accepts, past_comes, past_delivers, past_opens, past_prepares, past_place, past_view, place_of, start_after, timely, view_of, cert_of_last}
 use Rattle.node_model.specs.Seen.{core_of_past, IsAtMost, NothingAhead}
 use Rattle.node_model.proofs.KeptLemmas.{any-kept, all-firsts, kept_next}
 
@@ -167,13 +167,25 @@ abbrev view_with : Setup → ℕ → Past → List Letter → View
 view_with su i past ms = record (view_of su i past) { kept = held (config_of su i (facts_of past)).number (height i (facts_of past)) ms }
 
 view_came : (su : Setup) (i : ℕ) (past : Past) (accepts : Accepts) (l : Letter) (b : Bool) → eqb l.from i ≡ b
-    → view_of su i (Came (FromMember l) accepts ∷ past) ≡ cond b (view_of su i past) (kept_after accepts (place_of su i (facts_of past)) (view_of su i past) l)
+    → view_with su i past (filter (is_timely su i (facts_of past) accepts) (of_another i (Some l)) ++ timely su i past)
+      ≡ cond b (view_of su i past) (kept_after accepts (place_of su i (facts_of past)) (view_of su i past) l)
 unfolding view_of
 view_came su i past accepts l true is =
     ap (λ b. view_with su i past (filter (is_timely su i (facts_of past) accepts) (cond b [] (l ∷ [])) ++ timely su i past)) is
 view_came su i past accepts l false is =
     ap (λ b. view_with su i past (filter (is_timely su i (facts_of past) accepts) (cond b [] (l ∷ [])) ++ timely su i past)) is
     ∙ sym (letter_kept su i (facts_of past) (timely su i past) accepts (place_of su i (facts_of past)) (view_of su i past) l (stands_now su i past))
+
+-- bytes that came are the vote message that they spell, if they spell one
+view_heard : (su : Setup) (i : ℕ) (past : Past) (accepts : Accepts) (from : ℕ) (bytes : List ℕ)
+    → view_of su i (Came (FromMember from bytes) accepts ∷ past)
+      ≡ view_with su i past (filter (is_timely su i (facts_of past) accepts) (of_another i (letter_in from bytes)) ++ timely su i past)
+unfolding view_of
+view_heard su i past accepts from bytes = refl
+
+view_silent : (su : Setup) (i : ℕ) (past : Past) → view_with su i past (timely su i past) ≡ view_of su i past
+unfolding view_of
+view_silent su i past = refl
 
 abbrev core_with : Place → View → Core
 core_with p w = record { place = p; view = w }
@@ -190,13 +202,20 @@ ticked : (su : Setup) (i : ℕ) (past : Past) (offer : List Request) (accepts : 
 unfolding view_of
 ticked su i past offer accepts = refl
 
-pub seen_comes : (event : Event) (accepts : Accepts) (n : PastNode) → core_of_past (past_comes event accepts n) ≡ core_comes event accepts (core_of_past n)
-seen_comes (Tick offer) accepts n = ap (core_with (past_place n)) (ticked n.setup n.id n.past offer accepts)
-seen_comes (FromMember l) accepts n =
+seen_hears : (o : Option Letter) (accepts : Accepts) (n : PastNode)
+    → core_with (past_place n) (view_with n.setup n.id n.past (filter (is_timely n.setup n.id (facts_of n.past) accepts) (of_another n.id o) ++ timely n.setup n.id n.past))
+      ≡ core_hears o accepts (core_of_past n)
+seen_hears None accepts n = ap (core_with (past_place n)) (view_silent n.setup n.id n.past)
+seen_hears (Some l) accepts n =
     let b = eqb l.from n.id in
     let v = kept_after accepts (past_place n) (past_view n) l in
     ap (core_with (past_place n)) (view_came n.setup n.id n.past accepts l b refl) ∙ core_if b (past_place n) (past_view n) v
     ∙ ap (λ me. cond (eqb l.from me) (core_of_past n) (core_with (past_place n) v)) (sym (me_is n.setup n.id n.past))
+
+pub seen_comes : (event : Event) (accepts : Accepts) (n : PastNode) → core_of_past (past_comes event accepts n) ≡ core_comes event accepts (core_of_past n)
+seen_comes (Tick offer) accepts n = ap (core_with (past_place n)) (ticked n.setup n.id n.past offer accepts)
+seen_comes (FromMember from bytes) accepts n =
+    ap (core_with (past_place n)) (view_heard n.setup n.id n.past accepts from bytes) ∙ seen_hears (letter_in from bytes) accepts n
 
 -- ACCEPTING
 

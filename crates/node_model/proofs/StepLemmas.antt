@@ -2,7 +2,7 @@
 use Rattle.std.proofs.Common.{◌≡◌, ℕ, zero, suc, List, [], ◌∷◌, ◌++◌, ap, refl, subst, Option, Some, None}
 use Rattle.ord_types.specs.declared.values.Block.{Block}
 use Rattle.ord_types.specs.declared.values.Cert.{Cert}
-use Rattle.node_model.specs.Letters.{Message}
+use Rattle.bft_wire.specs.declared.message.Message.{Message}
 use Rattle.node_model.specs.Acts.{proposed, acceptance_due, preparation_due, delivery_due}
 use Rattle.node_model.specs.Steps.{Event, Tick, FromMember, Keys, Making, accept_round, begins, commit_message, deliver_round, makes_accepted, makes_delivered, makes_prepared, next, own_rule, prepare_round, preprepare_message, propose_round, rounds, votes}
 use Rattle.signer_edge.specs.Statements.{commit_text}
@@ -78,7 +78,7 @@ step_propose_round (Some b) m ahead = step_accepted b (preprepare_message (past_
 
 step_own_rule : (event : Event) (m : Making PastNode) → NothingAhead m.state → Stepped (own_rule past_ways event m) (own_rule core_ways event (core_making m))
 step_own_rule (Tick offer) m ahead = step_propose_round (proposed (past_place m.state) (past_view m.state) offer) m ahead
-step_own_rule (FromMember letter) m ahead = record { same = refl; ahead = ahead }
+step_own_rule (FromMember from bytes) m ahead = record { same = refl; ahead = ahead }
 
 step_begins : (keys : Keys) (n : PastNode) (event : Event) → NothingAhead n → Stepped (begins past_ways keys n event) (begins core_ways keys (core_of_past n) event)
 step_begins keys n event ahead =

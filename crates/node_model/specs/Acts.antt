@@ -1,5 +1,5 @@
 -- What a member does about its view: propose, accept, prepare, deliver, each exactly where its condition holds (SmartBFT).
-use Rattle.std.specs.Prelude.{ℕ, ◌+◌, Bool, ◌&&◌, ◌||◌, ◌==◌, nat_le, not, is_none, List, [], ◌∷◌, length, filter_map, Option, Some, None, if◌then◌else◌}
+use Rattle.std.specs.Prelude.{ℕ, Bool, ◌&&◌, ◌||◌, ◌==◌, nat_le, not, is_none, List, [], ◌∷◌, length, filter_map, Option, Some, None, if◌then◌else◌}
 use Rattle.std.specs.List.{list_any}
 use Rattle.ord_types.specs.Members.{is_in, is_raft, how_many, quorum}
 use Rattle.ord_types.specs.Hashes.{block_hash, content_hash, meta_hash}
@@ -8,10 +8,10 @@ use Rattle.ord_types.specs.declared.values.Cert.{Cert}
 use Rattle.ord_types.specs.declared.values.Config.{Config}
 use Rattle.safety_model.specs.Blocks.{Block, Request}
 use Rattle.signer_edge.specs.Accepts.{Accepts}
-use Rattle.bft_wire.specs.declared.message.Message.TheVariants as message_of
+use Rattle.node_model.specs.declared.letter.VoteMessage.TheVariants as message_of
 pub use Rattle.node_model.specs.declared.act.Act.{Act}
 use Rattle.node_model.specs.declared.act.Act.TheVariants.{Accept, Prepare, Deliver}
-use Rattle.node_model.specs.Letters.{Message, Letter, PrePrepare, proposal_in, is_prepare_for, is_commit_for}
+use Rattle.node_model.specs.Letters.{VoteMessage, Letter, PrePrepare, proposal_in, is_prepare_for, is_commit_for}
 use Rattle.node_model.specs.Leading.{Meta, Place, is_at_start, leader, next_meta}
 use Rattle.node_model.specs.Checks.{is_next_block, is_carried_good, is_block_of_view, signers_carried}
 
@@ -123,7 +123,7 @@ preparation_due place w = if is_voting place w && is_inside_view w && not w.is_p
 
 -- DELIVER
 
-abbrev pub sig_in : Message → Option Sig
+abbrev pub sig_in : VoteMessage → Option Sig
 sig_in (message_of.PrePrepare m) = None
 sig_in (message_of.Prepare m) = None
 sig_in (message_of.Commit m) = Some m.sig

@@ -3,15 +3,15 @@ use Rattle.std.specs.Prelude.{ℕ, ◌+◌, Bool, true, false, ◌&&◌, ◌||�
 use Rattle.std.specs.List.{list_any}
 use Rattle.std.specs.Str.{bytes_eq}
 use Rattle.ord_types.specs.Members.{is_in, is_raft}
-use Rattle.safety_model.specs.Blocks.{Block, Request}
+use Rattle.safety_model.specs.Blocks.{Request}
 use Rattle.signer_edge.specs.Accepts.{Accepts}
 use Rattle.signer_edge.specs.Statements.{commit_text}
-use Rattle.bft_wire.specs.declared.message.Message.TheVariants as message_of
+use Rattle.node_model.specs.declared.letter.VoteMessage.TheVariants as message_of
 use Rattle.bft_wire.specs.declared.reason.Reason.{Reason}
 use Rattle.bft_wire.specs.declared.reason.Reason.TheVariants as reason
 use Rattle.node_model.specs.declared.act.Act.TheVariants as act_of
 use Rattle.node_model.specs.declared.act.Act.TheVariants.{Kept, Nothing}
-use Rattle.node_model.specs.Letters.{Message, Letter, PrePrepare, same_slot, config_in, view_in, number_in}
+use Rattle.node_model.specs.Letters.{VoteMessage, Letter, PrePrepare, same_slot, config_in, view_in, number_in}
 use Rattle.node_model.specs.Leading.{Place, leader}
 use Rattle.node_model.specs.Checks.{is_next_block, is_block_of_view, is_carried_good}
 use Rattle.node_model.specs.Acts.{Act, View, is_inside_view, proposed, proposal, preparation_due, accept_act, prepare_act, due}
@@ -64,7 +64,7 @@ at_place place w = if is_same_config place w then (if w.height == place.height t
 -- KEEPING A MESSAGE
 
 -- a Commit is signed by its sender, and the signature is accepted; nothing is asked of the others
-abbrev pub is_signed : Accepts → ℕ → Message → Bool
+abbrev pub is_signed : Accepts → ℕ → VoteMessage → Bool
 is_signed accepts from (message_of.PrePrepare m) = true
 is_signed accepts from (message_of.Prepare m) = true
 is_signed accepts from (message_of.Commit m) = (m.sig.signer == from) && accepts (commit_text m.config m.view m.number m.digest) m.sig
@@ -138,7 +138,7 @@ proposal_reasons accepts place w from m =
     (not (is_block_of_view place w.view m), reason.BadBlock) ∷
     (not (is_carried_good accepts place m.cert), reason.BadCert) ∷ []
 
-abbrev pub message_reasons : Accepts → Place → View → ℕ → Message → Reasons
+abbrev pub message_reasons : Accepts → Place → View → ℕ → VoteMessage → Reasons
 message_reasons accepts place w from (message_of.PrePrepare m) = if m.number == place.height then proposal_reasons accepts place w from m else []
 message_reasons accepts place w from (message_of.Prepare m) = []
 message_reasons accepts place w from (message_of.Commit m) = (not (is_signed accepts from (message_of.Commit m)), reason.BadSignature) ∷ []

@@ -1,14 +1,14 @@
 -- A node's state that is updated in place: where its ledger stands, and what it holds of its view.
-use Rattle.std.specs.Prelude.{ℕ, ◌+◌, ◌==◌, List, Some, None, if◌then◌else◌}
+use Rattle.std.specs.Prelude.{ℕ, ◌+◌, ◌==◌, List, Option, Some, None, if◌then◌else◌}
 use Rattle.ord_types.specs.Hashes.{block_hash}
 use Rattle.ord_types.specs.Genesis.{genesis_block, genesis_meta}
 use Rattle.ord_types.specs.declared.values.Cert.{Cert}
 use Rattle.ord_types.specs.declared.values.Config.{Config}
 use Rattle.safety_model.specs.Blocks.{Block}
 use Rattle.signer_edge.specs.Accepts.{Accepts}
-use Rattle.bft_wire.specs.declared.message.Message.TheVariants as message_of
+use Rattle.node_model.specs.declared.letter.VoteMessage.TheVariants as message_of
 use Rattle.node_model.specs.declared.act.Act.TheVariants as act_of
-use Rattle.node_model.specs.Letters.{Commit, Letter}
+use Rattle.node_model.specs.Letters.{Commit, Letter, letter_in}
 use Rattle.node_model.specs.Leading.{Place}
 use Rattle.node_model.specs.Acts.{View}
 use Rattle.node_model.specs.Answers.{fresh, at_place, kept_after, after_act}
@@ -31,10 +31,15 @@ next_place place b cert =
 abbrev pub core_opens : Config → ℕ → Core
 core_opens c id = record { place = first_place c; view = fresh id (first_place c) }
 
--- a message is kept where it is new; one that names the node itself as its sender brings nothing
+-- a vote message is kept where it is new; one that names the node itself as its sender brings nothing
+abbrev pub core_hears : Option Letter → Accepts → Core → Core
+core_hears None accepts s = s
+core_hears (Some letter) accepts s = if letter.from == s.view.me then s else record s { view = kept_after accepts s.place s.view letter }
+
+-- bytes that spell no vote message bring nothing
 abbrev pub core_comes : Event → Accepts → Core → Core
 core_comes (Tick offer) accepts s = s
-core_comes (FromMember letter) accepts s = if letter.from == s.view.me then s else record s { view = kept_after accepts s.place s.view letter }
+core_comes (FromMember from bytes) accepts s = core_hears (letter_in from bytes) accepts s
 
 abbrev pub core_accepts : Block → Core → Core
 core_accepts b s = record s { view = after_act (act_of.Accept b) s.view }

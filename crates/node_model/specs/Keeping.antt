@@ -1,5 +1,5 @@
 -- Where a node stands, which vote messages it keeps and what it holds of its view: all computed from its past.
-use Rattle.std.specs.Prelude.{ℕ, ◌+◌, Bool, false, ◌&&◌, ◌||◌, ◌==◌, nat_le, not, List, [], ◌∷◌, ◌++◌, reverse, filter, is_some, Option, Some, None, if◌then◌else◌}
+use Rattle.std.specs.Prelude.{ℕ, ◌+◌, Bool, false, ◌&&◌, ◌==◌, not, List, [], ◌∷◌, ◌++◌, reverse, filter, is_some, Option, Some, None, if◌then◌else◌}
 use Rattle.std.specs.List.{list_any}
 use Rattle.ord_types.specs.Genesis.{genesis_block}
 use Rattle.ord_types.specs.Hashes.{block_hash}
@@ -15,9 +15,9 @@ use Rattle.safety_model.specs.State.{Setup, config_of, delivered, height, is_ins
 use Rattle.safety_model.specs.declared.fact.Fact.{Fact}
 use Rattle.safety_model.specs.declared.fact.Fact.TheVariants.{Accepted, Prepared, Delivered}
 use Rattle.signer_edge.specs.Accepts.{Accepts}
-use Rattle.bft_wire.specs.declared.message.Message.TheVariants as message_of
+use Rattle.node_model.specs.declared.letter.VoteMessage.TheVariants as message_of
 use Rattle.node_model.specs.declared.letter.Letter.{Letter}
-use Rattle.node_model.specs.Letters.{Commit, config_in, number_in, same_slot, view_in}
+use Rattle.node_model.specs.Letters.{Commit, config_in, letter_in, same_slot, view_in}
 use Rattle.node_model.specs.Leading.{Place}
 use Rattle.node_model.specs.Acts.{View}
 use Rattle.node_model.specs.Answers.{is_near, is_signed}
@@ -52,10 +52,15 @@ place_of su i h =
 
 -- WHAT IT KEEPS
 
--- the message that an event brings from another node
+-- a vote message of another node
+abbrev pub of_another : ℕ → Option Letter → List Letter
+of_another i None = []
+of_another i (Some letter) = if letter.from == i then [] else letter ∷ []
+
+-- the vote message that an event brings from another node
 abbrev pub letter_of : ℕ → Event → List Letter
 letter_of i (Tick offer) = []
-letter_of i (FromMember letter) = if letter.from == i then [] else letter ∷ []
+letter_of i (FromMember from bytes) = of_another i (letter_in from bytes)
 
 -- a vote message comes from a member, under the configuration, inside the view, at the height or one below its number; a Commit is signed
 abbrev pub is_timely : Setup → ℕ → History → Accepts → Letter → Bool

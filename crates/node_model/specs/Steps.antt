@@ -14,7 +14,8 @@ use Rattle.safety_model.specs.declared.fact.Fact.TheVariants.{Accepted, Prepared
 use Rattle.signer_edge.specs.Accepts.{Accepts}
 use Rattle.signer_edge.specs.Statements.{commit_text}
 use Rattle.bft_wire.specs.declared.message.Message.TheVariants as message_of
-use Rattle.node_model.specs.Letters.{Message, Letter, Commit}
+use Rattle.bft_wire.specs.declared.message.Message.{Message}
+use Rattle.node_model.specs.Letters.{Commit}
 use Rattle.node_model.specs.Leading.{Place}
 use Rattle.node_model.specs.Acts.{View, proposed, carried_cert, acceptance_due, preparation_due, delivery_due}
 
@@ -22,7 +23,8 @@ use Rattle.node_model.specs.Acts.{View, proposed, carried_cert, acceptance_due, 
 pub data Event : Type 0 where
   -- with what the pool offers for the next block
   Tick : List Request → Event
-  FromMember : Letter → Event
+  -- the sender, and the bytes of its message
+  FromMember : ℕ → List ℕ → Event
 
 -- a message to be sent
 pub record Post : Type 0 where
@@ -145,7 +147,7 @@ propose_round ways (Some b) m = makes_accepted ways b (preprepare_message (ways.
 
 abbrev pub own_rule : {S : Type 0} → Ways S → Event → Making S → Making S
 own_rule ways (Tick offer) m = propose_round ways (proposed (ways.place m.state) (ways.view m.state) offer) m
-own_rule ways (FromMember letter) m = m
+own_rule ways (FromMember from bytes) m = m
 
 -- A STEP
 

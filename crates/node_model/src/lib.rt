@@ -7,4 +7,4 @@ mod letter;
 
 pub use act::Act;
 pub use agreement::steps_agree;
-pub use letter::Letter;
+pub use letter::{Letter, VoteMessage};

@@ -1,5 +1,5 @@
 -- The laws of the values' readings.
-use Rattle.std.proofs.Common.{◌≡◌, ℕ, ◌+◌, ◌^◌, ◌<◌, ◌≤◌, Bool, true, false, cond, not, List, [], ◌∷◌, ◌++◌, length, Option, Some, None, refl, sym, ap, subst, ◌∙◌, append_assoc, arith}
+use Rattle.std.proofs.Common.{◌≡◌, ℕ, ◌+◌, ◌^◌, ◌<◌, ◌≤◌, Bool, true, false, cond, not, List, [], ◌∷◌, ◌++◌, length, Option, Some, None, Err, refl, sym, ap, subst, ◌∙◌, append_assoc, arith}
 use Rattle.std.specs.Prelude.{nat_lt, nat_le, ◌==◌, ◌&&◌, IfSome}
 use Rattle.std.specs.Int.{w8, w16, w32, w64, to_be_bytes}
 use Rattle.std.specs.List.{AllByRecursion, flat_map}
@@ -12,6 +12,7 @@ use Rattle.ord_types.specs.declared.values.Kind.TheVariants.{Raft, Bft}
 use Rattle.ord_types.specs.declared.values.Mode.TheVariants.{Normal, Maintenance}
 use Rattle.ord_types.specs.declared.values.Proof.TheVariants as proof_of
 use Rattle.ord_types.specs.declared.values.ReqKind.TheVariants.{Ordinary, Change}
+use Rattle.ord_types.specs.declared.fault.Flaw.TheVariants.{Short}
 use Rattle.ord_types.proofs.Loops.{ascending_loop, differing_loop, list_loop, sigs_loop, votes_loop}
 use Rattle.ord_types.proofs.Laws.{AllFrom, Ends, Law, SoMany, Spelled, bytes_law, last, many_law, meant_law, number_law, option_law, said_as, step, tested_law, wide8, wide16, wide32, wide64}
 
@@ -624,3 +625,37 @@ last_of_proof (proof_of.Bft c) t h = record { last = Some c; may = h.may; is = h
 pub proof_law : Law proof_at (Spelled HasProofSpelling proof_text)
 unfolding proof_at
 proof_law = said_as (λ p t h. proof_of_last p h.last t h.may h.is h.whole) last_of_proof (last proof_of_cert (option_law HasCertSpelling cert_text cert_law))
+
+-- NOTHING IS READ OF NO BYTES
+
+pub no_config : config_at [] ≡ Err Short
+unfolding config_at
+no_config = refl
+
+pub no_request : request_at [] ≡ Err Short
+unfolding request_at
+no_request = refl
+
+pub no_meta : meta_at [] ≡ Err Short
+unfolding meta_at
+no_meta = refl
+
+pub no_header : header_at [] ≡ Err Short
+unfolding header_at
+no_header = refl
+
+pub no_block : block_at [] ≡ Err Short
+unfolding block_at header_at
+no_block = refl
+
+pub no_sig : sig_at [] ≡ Err Short
+unfolding sig_from_at
+no_sig = refl
+
+pub no_cert : cert_at [] ≡ Err Short
+unfolding cert_at
+no_cert = refl
+
+pub no_report : report_at [] ≡ Err Short
+unfolding report_at
+no_report = refl

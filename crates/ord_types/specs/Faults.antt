@@ -43,15 +43,26 @@ whole size (Ok found) = all_or size found.0 found.1
 whole size (Err flaw) = Err (fault_at size flaw)
 
 -- what a call answered is this, unless memory ran out
-abbrev pub FailsAs : {Y : Type 0} → ReadFault → Result Y ReadFault → Type 0
-FailsAs fault_of.NoMemory answer = ⊤
-FailsAs (fault_of.Short at) answer = answer ≡ Err (fault_of.Short at)
-FailsAs (fault_of.BadField at) answer = answer ≡ Err (fault_of.BadField at)
-FailsAs (fault_of.Trailing at) answer = answer ≡ Err (fault_of.Trailing at)
-
 abbrev pub Answers : {Y : Type 0} → Result Y ReadFault → Result Y ReadFault → Type 0
-Answers (Ok y) answer = answer ≡ Ok y
-Answers (Err fault) answer = FailsAs fault answer
+Answers (Err fault_of.NoMemory) answer = ⊤
+Answers result answer = answer ≡ result
+
+-- WHERE THE CODE'S READING ENDED
+
+-- the fault of what ended it, in this many bytes
+abbrev pub halted_at : ℕ → Halt → ReadFault
+halted_at size halt_of.NoMemory = fault_of.NoMemory
+halted_at size (halt_of.Flawed flaw) = fault_at size flaw
+
+-- the field that ended it begins inside of this many bytes
+abbrev pub BeginsWithin : ℕ → Halt → Type 0
+BeginsWithin size (halt_of.Flawed (Bad left)) = left ≤ size
+BeginsWithin size halt = ⊤
+
+-- it stayed inside of this many bytes, and left these
+abbrev pub StaysWithin : {X : Type 0} → ℕ → Result X Halt → List ℕ → Type 0
+StaysWithin size (Ok x) left = length left ≤ size
+StaysWithin size (Err halt) left = BeginsWithin size halt
 
 -- A CALL THAT READS AT A PLACE
 

@@ -1,11 +1,13 @@
-ghost use Rattle.std.specs.Prelude.{◌≡◌, length};
+ghost use Rattle.std.specs.Prelude.{◌≡◌, length, IfSome};
 ghost use Rattle.std.specs.Int.{w8, w32, to_be_bytes};
 ghost use Rattle.std.specs.List.{flat_map};
-ghost use Rattle.ord_types.specs.Spelling.{ids_text, batch_text, config_text, sig_text, cert_text, request_text, requests_text, meta_text, header_text, block_text, kind_number, mode_number, request_kind_number};
-ghost use Rattle.ord_types.specs.Lengths.{FitsIds, FitsConfig, FitsSig, FitsCert, FitsRequest, FitsRequests, FitsMeta, FitsBlock};
+ghost use Rattle.ord_types.specs.Spelling.{ids_text, batch_text, config_text, sig_text, cert_text, request_text, requests_text, meta_text, header_text, block_text, last_text, option_text, report_text, vote_text, kind_number, mode_number, request_kind_number};
+ghost use Rattle.ord_types.specs.Lengths.{FitsIds, FitsConfig, FitsSig, FitsCert, FitsRequest, FitsRequests, FitsMeta, FitsBlock, FitsLast, FitsReport};
 
 use crate::lists::List;
-use crate::values::{Batch, Block, Cert, Config, Header, Kind, Meta, Mode, ReqKind, Request, Sig};
+use crate::values::{
+    Batch, Block, Cert, Config, Header, Kind, Last, Meta, Mode, Report, ReqKind, Request, Sig, Vote,
+};
 use crate::writing::Writer;
 
 /// The spelling of a header.
@@ -148,4 +150,66 @@ pub fn write_block<W: Writer>(writer: &mut W, block: &Block)
     write_header(writer, &block.header);
     write_requests(writer, &block.requests);
     write_meta(writer, &block.meta);
+}
+
+fn write_vote<W: Writer>(writer: &mut W, vote: &Vote)
+    ensures { W.took writer.old writer.new (vote_text vote.now) }
+{
+    writer.put_u64(vote.view);
+    writer.put(&vote.digest);
+}
+
+fn write_last<W: Writer>(writer: &mut W, last: &Last)
+    requires { FitsLast last.now }
+    ensures { W.took writer.old writer.new (last_text last.now) }
+{
+    writer.put(&last.hash);
+    write_cert(writer, &last.cert);
+}
+
+fn write_vote_or_none<W: Writer>(writer: &mut W, vote: &Option<Vote>)
+    ensures { W.took writer.old writer.new (option_text vote_text vote.now) }
+{
+    match vote {
+        None => writer.put_u8(0),
+        Some(vote) => {
+            writer.put_u8(1);
+            write_vote(writer, vote);
+        }
+    }
+}
+
+fn write_last_or_none<W: Writer>(writer: &mut W, last: &Option<Last>)
+    requires { IfSome last.now FitsLast }
+    ensures { W.took writer.old writer.new (option_text last_text last.now) }
+{
+    match last {
+        None => writer.put_u8(0),
+        Some(last) => {
+            writer.put_u8(1);
+            write_last(writer, last);
+        }
+    }
+}
+
+// Votes, one after the other.
+fn write_votes<W: Writer>(writer: &mut W, votes: &List<Vote>)
+    ensures { W.took writer.old writer.new (flat_map vote_text votes.now) }
+{
+    for vote in votes.as_slice() {
+        write_vote(writer, vote);
+    }
+}
+
+/// The spelling of a report.
+pub fn write_report<W: Writer>(writer: &mut W, report: &Report)
+    requires { FitsReport report.now }
+    ensures { W.took writer.old writer.new (report_text report.now) }
+{
+    let count = report.accepted.len() as u8;
+    writer.put_u64(report.height);
+    write_last_or_none(writer, &report.last);
+    write_vote_or_none(writer, &report.prepared);
+    writer.put_u8(count);
+    write_votes(writer, &report.accepted);
 }

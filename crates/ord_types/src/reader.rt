@@ -1,5 +1,5 @@
 //! Reads fields from the front of bytes.
-ghost use Rattle.std.specs.Prelude.{◌≡◌, ℕ, ◌<◌, ◌≤◌, ◌^◌, ◌==◌, ◌&&◌, length, nat_le, nat_lt, if◌then◌else◌};
+ghost use Rattle.std.specs.Prelude.{◌≡◌, ℕ, ◌<◌, ◌≤◌, ◌^◌, ◌==◌, ◌&&◌, drop, length, nat_le, nat_lt, if◌then◌else◌};
 ghost use Rattle.std.specs.Prelude.{List as Items};
 ghost use Rattle.std.specs.Int.{w8, w16, w32, w64};
 ghost use Rattle.ord_types.specs.Faults.{Reads, ReadsAs};
@@ -40,6 +40,16 @@ impl<'a> Reader<'a> {
         ensures { result ≡ bytes.now }
     {
         Reader { rest: bytes }
+    }
+
+    /// Reads from this place of these bytes on: nothing, where the place is behind them.
+    pub fn at(bytes: &'a [u8], place: usize) -> Reader<'a>
+        ensures { result ≡ drop place bytes.now }
+    {
+        let place = place.min(bytes.len());
+        Reader {
+            rest: &bytes[place..],
+        }
     }
 
     /// How many bytes are left.

@@ -1,13 +1,13 @@
 ghost use Rattle.std.specs.Prelude.{◌≡◌, ◌++◌, OnOk, OnErr};
-ghost use Rattle.ord_types.specs.Spelling.{config_text, sig_text, cert_text, request_text, requests_text, meta_text, header_text, block_text};
-ghost use Rattle.ord_types.specs.Lengths.{FitsConfig, FitsSig, FitsCert, FitsRequest, FitsRequests, FitsMeta, FitsBlock};
+ghost use Rattle.ord_types.specs.Spelling.{config_text, sig_text, cert_text, request_text, requests_text, meta_text, header_text, block_text, report_text};
+ghost use Rattle.ord_types.specs.Lengths.{FitsConfig, FitsSig, FitsCert, FitsRequest, FitsRequests, FitsMeta, FitsBlock, FitsReport};
 
 use crate::layouts::{
-    write_block, write_cert, write_config, write_header, write_meta, write_request, write_requests,
-    write_sig,
+    write_block, write_cert, write_config, write_header, write_meta, write_report, write_request,
+    write_requests, write_sig,
 };
 use crate::lists::{Bytes, List, NoMemory};
-use crate::values::{Block, Cert, Config, Header, Meta, Request, Sig};
+use crate::values::{Block, Cert, Config, Header, Meta, Report, Request, Sig};
 use crate::writing::Growing;
 
 /// Adds the spelling of a configuration.
@@ -102,5 +102,17 @@ pub fn put_block(out: &mut Bytes, block: &Block) -> Result<(), NoMemory>
     let before = out.len();
     let mut growing = Growing::of(out);
     write_block(&mut growing, block);
+    growing.give(out, before)
+}
+
+/// Adds the spelling of a report.
+pub fn put_report(out: &mut Bytes, report: &Report) -> Result<(), NoMemory>
+    requires { FitsReport report.now }
+    ensures ok { OnOk result (out.new ≡ out.old ++ report_text report.now) }
+    ensures err { OnErr result (out.new ≡ out.old) }
+{
+    let before = out.len();
+    let mut growing = Growing::of(out);
+    write_report(&mut growing, report);
     growing.give(out, before)
 }

@@ -3,6 +3,7 @@ ghost use Rattle.std.specs.Int.{w8, w16, w32, w64, to_be_bytes};
 ghost use Rattle.ord_types.specs.Growth.{Grew, grew_nothing, grew_both, Hashed, hashed_nothing, hashed_both};
 
 use crate::lists::{Bytes, NoMemory};
+use byteorder::{BigEndian, ByteOrder};
 use sha2::{Digest as Hasher, Sha256};
 use std::mem;
 
@@ -18,25 +19,31 @@ pub trait Writer {
     final fn put_u8(&mut self, number: u8)
         ensures { took self.old self.new (to_be_bytes w8 number) }
     {
-        self.put(&number.to_be_bytes());
+        self.put(&[number]);
     }
 
     final fn put_u16(&mut self, number: u16)
         ensures { took self.old self.new (to_be_bytes w16 number) }
     {
-        self.put(&number.to_be_bytes());
+        let mut bytes = [0; 2];
+        BigEndian::write_u16(&mut bytes, number);
+        self.put(&bytes);
     }
 
     final fn put_u32(&mut self, number: u32)
         ensures { took self.old self.new (to_be_bytes w32 number) }
     {
-        self.put(&number.to_be_bytes());
+        let mut bytes = [0; 4];
+        BigEndian::write_u32(&mut bytes, number);
+        self.put(&bytes);
     }
 
     final fn put_u64(&mut self, number: u64)
         ensures { took self.old self.new (to_be_bytes w64 number) }
     {
-        self.put(&number.to_be_bytes());
+        let mut bytes = [0; 8];
+        BigEndian::write_u64(&mut bytes, number);
+        self.put(&bytes);
     }
 
     ghost at_rest: { (a : Self) → took a a [] };

@@ -1,8 +1,8 @@
 -- The reasons that answers give.
 use Rattle.std.proofs.Common.{◌≡◌, ℕ, Bool, true, false, cond, [], ◌∷◌, ◌++◌, Option, Some, None, refl, sym, ap, ◌∙◌, ◌==◌, ◌+◌, ◌≤◌, ◌||◌, inl, inr, arith, IfOk, OnOk, Result, Ok, Err, ◌&&◌, not, subst}
 use Rattle.std.proofs.lemmas.Bool.{cases_Bool, cases_eq, or_left, or_right, or_parts, eq-eqb, not-false, not-true, ltb-false, and_from, and_parts, and_right, not_from_true, not_from_false}
-use Rattle.bft_wire.specs.declared.message.Message.{Message}
-use Rattle.bft_wire.specs.declared.message.Message.TheVariants as message_of
+use Rattle.node_model.specs.declared.letter.VoteMessage.{VoteMessage}
+use Rattle.node_model.specs.declared.letter.VoteMessage.TheVariants as message_of
 use Rattle.bft_wire.specs.declared.message.PrePrepare.{PrePrepare}
 use Rattle.bft_wire.specs.declared.reason.Reason.{Reason}
 use Rattle.bft_wire.specs.declared.reason.Reason.TheVariants as reason
@@ -31,7 +31,7 @@ first_reason_append (r ∷ rs) ss h =
 pub refused_proposal : (accepts : Accepts) (place : Place) (w : View) (letter : Letter) (m : PrePrepare) → first_reason (stands_outside place w letter) ≡ None → letter.message ≡ message_of.PrePrepare m → (m.number == place.height) ≡ true → reason_or (first_reason (proposal_reasons accepts place w letter.from m)) reason.Repeat ≡ reason_or (first_reason (stands_outside place w letter ++ message_reasons accepts place w letter.from letter.message)) reason.Repeat
 refused_proposal accepts place w letter m inside is number =
     let all = first_reason_append (stands_outside place w letter) (message_reasons accepts place w letter.from letter.message) inside in
-    let of_message = ap (λ (x : Message). first_reason (message_reasons accepts place w letter.from x)) is in
+    let of_message = ap (λ (x : VoteMessage). first_reason (message_reasons accepts place w letter.from x)) is in
     let at_height = ap (λ (b : Bool). first_reason (cond b (proposal_reasons accepts place w letter.from m) [])) number in
     ap (λ (r : Option Reason). reason_or r reason.Repeat) (sym (all ∙ of_message ∙ at_height))
 

@@ -10,8 +10,8 @@ use Rattle.std.proofs.lemmas.Map.Steps.{length-le_from_distinct_below}
 use Rattle.ord_types.specs.Members.{is_in}
 use Rattle.node_model.specs.declared.letter.Letter.{Letter}
 use Rattle.node_model.specs.Letters.{kind_of, number_in, config_in, view_in, same_slot}
-use Rattle.bft_wire.specs.declared.message.Message.{Message}
-use Rattle.bft_wire.specs.declared.message.Message.TheVariants as message_of
+use Rattle.node_model.specs.declared.letter.VoteMessage.{VoteMessage}
+use Rattle.node_model.specs.declared.letter.VoteMessage.TheVariants as message_of
 use Rattle.node_model.specs.Answers.{is_near}
 use Rattle.view_core.specs.Held.{IsHeld, is_held}
 
@@ -45,7 +45,7 @@ same_place a b (m ∷ ms) h k e =
       ]
     ]
 
-kinds : (m : Message) → (1 ≤ kind_of m) × (kind_of m ≤ 3)
+kinds : (m : VoteMessage) → (1 ≤ kind_of m) × (kind_of m ≤ 3)
 kinds (message_of.PrePrepare m) = (omega arith, omega arith)
 kinds (message_of.Prepare m) = (omega arith, omega arith)
 kinds (message_of.Commit m) = (omega arith, omega arith)

@@ -1,6 +1,6 @@
 //! The calls on a view: what is due, and what a message or an offer brings.
 ghost use Rattle.std.specs.Prelude.{◌≡◌, ◌++◌, IfOk, OnOk, OnErr, false, IsTrue};
-ghost use Rattle.bft_wire.specs.declared.message.Message.TheVariants as message_of;
+ghost use Rattle.node_model.specs.declared.letter.VoteMessage.TheVariants as message_of;
 ghost use Rattle.bft_wire.specs.declared.reason.Reason.TheVariants as reason;
 ghost use Rattle.node_model.specs.declared.act.Act.TheVariants as act_of;
 ghost use Rattle.node_model.specs.Acts.{due, preparation_due, prepare_act};
@@ -39,8 +39,8 @@ use crate::dues::leader;
 use crate::held::{Accepted, ViewState};
 use crate::keeping::{has_slot, is_raft, is_signed, outside};
 use crate::proposals::proposed_block;
-use bft_wire::{Commit, Message, PrePrepare, Prepare, Reason};
-use node_model::{Act, Letter};
+use bft_wire::{Commit, PrePrepare, Prepare, Reason};
+use node_model::{Act, Letter, VoteMessage};
 use ord_types::{Block, Copied, List, NoMemory, Place, Request, block_hash};
 use signer_edge::Verifier;
 
@@ -147,15 +147,15 @@ impl ViewState {
             return reason;
         }
         match &letter.message {
-            Message::PrePrepare(message) => {
+            VoteMessage::PrePrepare(message) => {
                 if message.number == place.height {
                     self.proposal_refusal(place, letter.from, message, verifier)
                 } else {
                     Reason::Repeat
                 }
             }
-            Message::Prepare(_) => Reason::Repeat,
-            Message::Commit(_) => {
+            VoteMessage::Prepare(_) => Reason::Repeat,
+            VoteMessage::Commit(_) => {
                 if is_signed(letter, verifier) {
                     Reason::Repeat
                 } else {
@@ -240,7 +240,7 @@ impl ViewState {
         ensures after { OnOk result (self.new ≡ after_vote (V.accepts verifier.now) place.now self.old (record { from = from; message = message_of.PrePrepare message })) }
         ensures err { OnErr result (self.new ≡ at_place place.now self.old) }
     {
-        let message = Message::PrePrepare(message);
+        let message = VoteMessage::PrePrepare(message);
         self.vote(place, Letter { from, message }, verifier)
     }
 
@@ -258,7 +258,7 @@ impl ViewState {
         ensures after { OnOk result (self.new ≡ after_vote (V.accepts verifier.now) place.now self.old (record { from = from; message = message_of.Commit message })) }
         ensures err { OnErr result (self.new ≡ at_place place.now self.old) }
     {
-        let message = Message::Commit(message);
+        let message = VoteMessage::Commit(message);
         self.vote(place, Letter { from, message }, verifier)
     }
 
@@ -269,7 +269,7 @@ impl ViewState {
         ensures answer { result ≡ kept_or (is_new accepts_nothing place.now self.old (record { from = from; message = message_of.Prepare message.now })) (first_reason (stands_outside place.now self.old (record { from = from; message = message_of.Prepare message.now }))) reason.Repeat }
         ensures after { self.new ≡ kept_after accepts_nothing place.now self.old (record { from = from; message = message_of.Prepare message.now }) }
     {
-        let message = Message::Prepare(*message);
+        let message = VoteMessage::Prepare(*message);
         let letter = Letter { from, message };
         if let Some(reason) = outside(place, self.view, self.left, &letter) {
             return Act::Nothing(reason);

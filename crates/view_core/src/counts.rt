@@ -12,8 +12,8 @@ ghost use Rattle.node_model.specs.Acts.{
   sig_of,
 };
 
-use bft_wire::{Message, PrePrepare};
-use node_model::Letter;
+use bft_wire::PrePrepare;
+use node_model::{Letter, VoteMessage};
 use ord_types::{Copied, Digest, List, NoMemory, Sig};
 use std::alloc::Global;
 
@@ -23,13 +23,13 @@ pub(crate) fn is_among(ids: &[u32], id: u32) -> bool
     ids.contains(&id)
 }
 
-fn is_prepare(message: &Message, number: u64, digest: &Digest) -> bool
+fn is_prepare(message: &VoteMessage, number: u64, digest: &Digest) -> bool
     ensures { result ≡ is_prepare_for number digest.now message.now }
 {
     match message {
-        Message::PrePrepare(_) => false,
-        Message::Prepare(prepare) => prepare.number == number && prepare.digest == *digest,
-        Message::Commit(_) => false,
+        VoteMessage::PrePrepare(_) => false,
+        VoteMessage::Prepare(prepare) => prepare.number == number && prepare.digest == *digest,
+        VoteMessage::Commit(_) => false,
     }
 }
 
@@ -79,9 +79,9 @@ fn sig_of<'a>(letter: &'a Letter, member: u32, number: u64, digest: &Digest) -> 
         return None;
     }
     match &letter.message {
-        Message::PrePrepare(_) => None,
-        Message::Prepare(_) => None,
-        Message::Commit(commit) => {
+        VoteMessage::PrePrepare(_) => None,
+        VoteMessage::Prepare(_) => None,
+        VoteMessage::Commit(commit) => {
             if commit.number == number && commit.digest == *digest {
                 Some(&commit.sig)
             } else {
@@ -148,15 +148,15 @@ fn proposal_of(letter: &Letter, from: u32, number: u64) -> Option<&PrePrepare>
         return None;
     }
     match &letter.message {
-        Message::PrePrepare(message) => {
+        VoteMessage::PrePrepare(message) => {
             if message.number == number {
                 Some(message)
             } else {
                 None
             }
         }
-        Message::Prepare(_) => None,
-        Message::Commit(_) => None,
+        VoteMessage::Prepare(_) => None,
+        VoteMessage::Commit(_) => None,
     }
 }
 

@@ -8,8 +8,8 @@ ghost use Rattle.node_model.specs.Acts.{View};
 ghost use Rattle.node_model.specs.Answers.{first_reason, is_near, is_signed, stands_outside};
 
 use crate::counts::is_among;
-use bft_wire::{Commit, Message, Reason};
-use node_model::Letter;
+use bft_wire::{Commit, Reason};
+use node_model::{Letter, VoteMessage};
 use ord_types::{Config, Kind, Place};
 use signer_edge::{Verifier, commit_statement};
 
@@ -22,43 +22,43 @@ pub(crate) fn is_raft(config: &Config) -> bool
     }
 }
 
-fn kind_of(message: &Message) -> u8
+fn kind_of(message: &VoteMessage) -> u8
     ensures { result ≡ kind_of message.now }
 {
     match message {
-        Message::PrePrepare(_) => 1,
-        Message::Prepare(_) => 2,
-        Message::Commit(_) => 3,
+        VoteMessage::PrePrepare(_) => 1,
+        VoteMessage::Prepare(_) => 2,
+        VoteMessage::Commit(_) => 3,
     }
 }
 
-fn config_in(message: &Message) -> u64
+fn config_in(message: &VoteMessage) -> u64
     ensures { result ≡ config_in message.now }
 {
     match message {
-        Message::PrePrepare(m) => m.config,
-        Message::Prepare(m) => m.config,
-        Message::Commit(m) => m.config,
+        VoteMessage::PrePrepare(m) => m.config,
+        VoteMessage::Prepare(m) => m.config,
+        VoteMessage::Commit(m) => m.config,
     }
 }
 
-fn view_in(message: &Message) -> u64
+fn view_in(message: &VoteMessage) -> u64
     ensures { result ≡ view_in message.now }
 {
     match message {
-        Message::PrePrepare(m) => m.view,
-        Message::Prepare(m) => m.view,
-        Message::Commit(m) => m.view,
+        VoteMessage::PrePrepare(m) => m.view,
+        VoteMessage::Prepare(m) => m.view,
+        VoteMessage::Commit(m) => m.view,
     }
 }
 
-fn number_in(message: &Message) -> u64
+fn number_in(message: &VoteMessage) -> u64
     ensures { result ≡ number_in message.now }
 {
     match message {
-        Message::PrePrepare(m) => m.number,
-        Message::Prepare(m) => m.number,
-        Message::Commit(m) => m.number,
+        VoteMessage::PrePrepare(m) => m.number,
+        VoteMessage::Prepare(m) => m.number,
+        VoteMessage::Commit(m) => m.number,
     }
 }
 
@@ -105,9 +105,9 @@ pub(crate) fn is_signed<V: Verifier>(letter: &Letter, verifier: &V) -> bool
     ensures { result ≡ is_signed (V.accepts verifier.now) letter.now.from letter.now.message }
 {
     match &letter.message {
-        Message::PrePrepare(_) => true,
-        Message::Prepare(_) => true,
-        Message::Commit(commit) => is_commit_signed(letter.from, commit, verifier),
+        VoteMessage::PrePrepare(_) => true,
+        VoteMessage::Prepare(_) => true,
+        VoteMessage::Commit(commit) => is_commit_signed(letter.from, commit, verifier),
     }
 }
 

@@ -6,7 +6,11 @@ use Rattle.script.specs.declared.command.Command.TheVariants as command_of
 use Rattle.script.specs.declared.command.Range.{Range}
 use Rattle.script_play.specs.declared.ending.Ending.{Ending}
 use Rattle.script_play.specs.Turns.{Turn}
-use Rattle.safety_model.specs.Blocks.{Config, Request}
+use Rattle.ord_types.specs.declared.values.Proof.{Proof}
+use Rattle.ord_types.specs.declared.values.Proof.TheVariants as proof_of
+use Rattle.ord_types.specs.Genesis.{genesis_block}
+use Rattle.ord_types.specs.Spelling.{request_text}
+use Rattle.safety_model.specs.Blocks.{Block, Config, Request}
 use Rattle.safety_model.specs.Facts.{History}
 use Rattle.node_model.specs.Steps.{Event, Making}
 use Rattle.node_model.specs.Cores.{Core, core_opens, core_ways}
@@ -17,8 +21,8 @@ use Rattle.node_model.proofs.PastLemmas.{seen_opens}
 use Rattle.node_model.proofs.StepLemmas.{step_same}
 use Rattle.world_model.specs.Pools.{answer}
 use Rattle.world_model.specs.Worlds.{World, Node, Entry, entry, is_waiting, keys_of, letter_from, making, marked, node_after, node_at, tick_of, with_node, world_after}
-use Rattle.world_model.specs.Texts.{fact_text, closing_line, genesis_text, tick_text, deliver_text, flush_text, answer_text, refused_text, sent_text}
-use Rattle.world_model.specs.Turns.{at_node, closing_of, deliver_turn, deliveries, delivery, delivery_to, event_turn, first_config, first_world, flush_turn, flushes, goes_on, most_entries, most_flushed, ordinary, refuses, says, some_world, submit_turn, submitted, then_on, tick_at, ticks, turn_in, turn_of, within_limit}
+use Rattle.world_model.specs.Texts.{fact_text, closing_line, genesis_text, tick_text, deliver_text, flush_text, answer_text, refused_text, show_text, sent_text}
+use Rattle.world_model.specs.Turns.{at_node, closing_of, deliver_turn, deliveries, delivery, delivery_to, event_turn, first_config, first_world, flush_turn, flushes, goes_on, most_entries, most_flushed, ordinary, refuses, says, show_turn, shows, some_world, submit_turn, submitted, then_on, tick_at, ticks, turn_in, turn_of, within_limit}
 use Rattle.world_model.specs.Cores.{core_setting}
 use Rattle.world_model.specs.Histories.{past_setting}
 use Rattle.world_model.specs.Seen.{seen, seen_if_any, seen_node}
@@ -213,21 +217,27 @@ flush_same number only (suc n) count w all =
 
 -- SUBMIT
 
-submit_same : (number : ℕ) (w : Past) (node : Node PastNode) (r : Request) → NoneAhead w → IsAhead node → Same (submit_turn number w node r) (submit_turn number (seen w) (seen_node node) r)
-submit_same number w node r all ahead =
-    let text = answer_text number node.id (answer node.pool r) in
-    let after = record w { nodes = with_node (submitted node r) w.nodes } in
-    subst (λ nodes. Same (says text after) (says text (record (seen w) { nodes = nodes }))) (with_seen (submitted node r) w.nodes)
-    (says_same seen NoneAhead text after (with_ahead (submitted node r) w.nodes ahead all))
+submit_same : (number : ℕ) (word : List ℕ) (w : Past) (node : Node PastNode) (bytes : List ℕ) → NoneAhead w → IsAhead node → Same (submit_turn number word w node bytes) (submit_turn number word (seen w) (seen_node node) bytes)
+submit_same number word w node bytes all ahead =
+    let text = answer_text number word node.id (answer node.pool bytes) in
+    let after = record w { nodes = with_node (submitted node bytes) w.nodes } in
+    subst (λ nodes. Same (says text after) (says text (record (seen w) { nodes = nodes }))) (with_seen (submitted node bytes) w.nodes)
+    (says_same seen NoneAhead text after (with_ahead (submitted node bytes) w.nodes ahead all))
+
+-- SHOW
+
+shows_same : (number : ℕ) (w : Past) (node : Node PastNode) (o : Option (Block × Proof)) → NoneAhead w → Same (shows number w node o) (shows number (seen w) (seen_node node) o)
+shows_same number w node None all = says_same seen NoneAhead (refused_text number (codes "no block")) w all
+shows_same number w node (Some stored) all = says_same seen NoneAhead (show_text number node.id stored.0 stored.1) w all
 
 -- GENESIS
 
 opened_seen : (c : Config) (ids : List ℕ)
-    → map seen_node (map (λ id. record { id = id; state = past_opens c id; pool = [] }) ids) ≡ map (λ id. record { id = id; state = core_opens c id; pool = [] }) ids
+    → map seen_node (map (λ id. record { id = id; state = past_opens c id; pool = []; ledger = (genesis_block c, proof_of.Raft) ∷ [] }) ids) ≡ map (λ id. record { id = id; state = core_opens c id; pool = []; ledger = (genesis_block c, proof_of.Raft) ∷ [] }) ids
 opened_seen c [] = refl
-opened_seen c (id ∷ ids) = ap₂ (λ s rest. record { id = id; state = s; pool = [] } ∷ rest) (seen_opens c id) (opened_seen c ids)
+opened_seen c (id ∷ ids) = ap₂ (λ s rest. record { id = id; state = s; pool = []; ledger = (genesis_block c, proof_of.Raft) ∷ [] } ∷ rest) (seen_opens c id) (opened_seen c ids)
 
-opened_ahead : (c : Config) (ids : List ℕ) → AllByRecursion IsAhead (map (λ id. record { id = id; state = past_opens c id; pool = [] }) ids)
+opened_ahead : (c : Config) (ids : List ℕ) → AllByRecursion IsAhead (map (λ id. record { id = id; state = past_opens c id; pool = []; ledger = (genesis_block c, proof_of.Raft) ∷ [] }) ids)
 opened_ahead c [] = tt
 opened_ahead c (id ∷ ids) = (ahead_opens c id, opened_ahead c ids)
 
@@ -244,8 +254,15 @@ at_node_same number w (Some node) p turn core_turn all same each = rw same.0 (ea
 turn_same : (number : ℕ) (w : Past) (command : Command) → NoneAhead w → Same (turn_in past_setting number w command) (turn_in core_setting number (seen w) command)
 turn_same number w (command_of.Genesis members) all = says_same seen NoneAhead (refused_text number (codes "second genesis")) w all
 turn_same number w (command_of.Submit id client serial payload) all =
-    at_node_same number w (node_at id w.nodes) (node_at id (map seen_node w.nodes)) (λ node. submit_turn number w node (ordinary client serial payload)) (λ node. submit_turn number (seen w) node (ordinary client serial payload))
-    all (node_at_same id w.nodes all) (λ node ahead. submit_same number w node (ordinary client serial payload) all ahead)
+    let bytes = request_text (ordinary client serial payload) in
+    at_node_same number w (node_at id w.nodes) (node_at id (map seen_node w.nodes)) (λ node. submit_turn number (codes "submit") w node bytes) (λ node. submit_turn number (codes "submit") (seen w) node bytes)
+    all (node_at_same id w.nodes all) (λ node ahead. submit_same number (codes "submit") w node bytes all ahead)
+turn_same number w (command_of.Raw id bytes) all =
+    at_node_same number w (node_at id w.nodes) (node_at id (map seen_node w.nodes)) (λ node. submit_turn number (codes "raw") w node bytes) (λ node. submit_turn number (codes "raw") (seen w) node bytes)
+    all (node_at_same id w.nodes all) (λ node ahead. submit_same number (codes "raw") w node bytes all ahead)
+turn_same number w (command_of.Show id block) all =
+    at_node_same number w (node_at id w.nodes) (node_at id (map seen_node w.nodes)) (λ node. show_turn number w node block) (λ node. show_turn number (seen w) node block)
+    all (node_at_same id w.nodes all) (λ node ahead. shows_same number w node (slice_get node.ledger block) all)
 turn_same number w (command_of.Tick id count) all =
     at_node_same number w (node_at id w.nodes) (node_at id (map seen_node w.nodes)) (λ node. ticks past_setting number id count w) (λ node. ticks core_setting number id count (seen w))
     all (node_at_same id w.nodes all) (λ node ahead. ticks_same number id count w all)
@@ -279,6 +296,8 @@ pub turn_of_same : (o : Option Past) (number : ℕ) (command : Command) → None
 unfolding turn_of
 turn_of_same None number (command_of.Genesis members) all = genesis_same number members
 turn_of_same None number (command_of.Submit id client serial payload) all = no_world_same number
+turn_of_same None number (command_of.Raw id bytes) all = no_world_same number
+turn_of_same None number (command_of.Show id block) all = no_world_same number
 turn_of_same None number (command_of.Tick id count) all = no_world_same number
 turn_of_same None number (command_of.Deliver ranges) all = no_world_same number
 turn_of_same None number (command_of.Flush only) all = no_world_same number

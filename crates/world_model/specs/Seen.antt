@@ -7,7 +7,7 @@ use Rattle.node_model.specs.Seen.{core_of_past}
 use Rattle.world_model.specs.Worlds.{Node, World}
 
 abbrev pub seen_node : Node PastNode → Node Core
-seen_node node = record { id = node.id; state = core_of_past node.state; pool = node.pool }
+seen_node node = record { id = node.id; state = core_of_past node.state; pool = node.pool; ledger = node.ledger }
 
 abbrev pub seen : World PastNode History → World Core (Unit {0})
 seen w = record { nodes = map seen_node w.nodes; network = w.network; seals = w.seals; told = tt }

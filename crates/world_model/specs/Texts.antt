@@ -1,6 +1,8 @@
 -- The lines that a world prints.
 use Rattle.std.specs.Prelude.{ℕ, List, [], ◌∷◌, ◌++◌, length, codes, decimal}
 use Rattle.std.specs.List.{flat_map}
+use Rattle.hex.specs.Hex.{encode_lower}
+use Rattle.ord_types.specs.Hashes.{block_hash}
 use Rattle.ord_types.specs.declared.values.Cert.{Cert}
 use Rattle.ord_types.specs.declared.values.Proof.{Proof}
 use Rattle.ord_types.specs.declared.values.Proof.TheVariants as proof_of
@@ -31,20 +33,22 @@ refused_text number reason = decimal number ++ codes " refused " ++ reason ++ co
 unfoldable pub limit_text : ℕ → ℕ → List ℕ
 limit_text number limit = decimal number ++ codes " limit " ++ decimal limit ++ codes "\n"
 
-unfoldable pub admitted_text : ℕ → ℕ → List ℕ
-admitted_text number node = decimal number ++ codes " submit " ++ decimal node ++ codes " admitted\n"
+-- the lines of `submit` and `raw` tell the node and its pool's answer
 
-unfoldable pub malformed_text : ℕ → ℕ → ℕ → List ℕ
-malformed_text number node at = decimal number ++ codes " submit " ++ decimal node ++ codes " malformed grammar " ++ decimal at ++ codes "\n"
+unfoldable pub admitted_text : ℕ → List ℕ → ℕ → List ℕ
+admitted_text number word node = decimal number ++ codes " " ++ word ++ codes " " ++ decimal node ++ codes " admitted\n"
 
-unfoldable pub pending_text : ℕ → ℕ → List ℕ
-pending_text number node = decimal number ++ codes " submit " ++ decimal node ++ codes " known pending\n"
+unfoldable pub malformed_text : ℕ → List ℕ → ℕ → ℕ → List ℕ
+malformed_text number word node at = decimal number ++ codes " " ++ word ++ codes " " ++ decimal node ++ codes " malformed grammar " ++ decimal at ++ codes "\n"
+
+unfoldable pub pending_text : ℕ → List ℕ → ℕ → List ℕ
+pending_text number word node = decimal number ++ codes " " ++ word ++ codes " " ++ decimal node ++ codes " known pending\n"
 
 -- the pool's answer
-abbrev pub answer_text : ℕ → ℕ → Answer → List ℕ
-answer_text number node Admitted = admitted_text number node
-answer_text number node (Malformed at) = malformed_text number node at
-answer_text number node KnownPending = pending_text number node
+abbrev pub answer_text : ℕ → List ℕ → ℕ → Answer → List ℕ
+answer_text number word node Admitted = admitted_text number word node
+answer_text number word node (Malformed at) = malformed_text number word node at
+answer_text number word node KnownPending = pending_text number word node
 
 -- ids joined by commas
 abbrev pub ids_joined : List ℕ → List ℕ
@@ -88,10 +92,21 @@ signers_text (proof_of.Bft cert) = signers_front ++ ids_joined (signers_of cert)
 unfoldable pub line_end : List ℕ
 line_end = codes "\n"
 
+-- what is told of a block
+abbrev pub block_told : ℕ → ℕ → Block → Proof → List ℕ
+block_told number node b proof =
+    block_front_text number node b ++ order_text proof ++ requests_count_text (length b.requests) ++ first_id_text b.requests ++ signers_text proof
+
 -- the line of a delivered block
 abbrev pub block_text : ℕ → ℕ → Block → Proof → List ℕ
-block_text number node b proof =
-    block_front_text number node b ++ order_text proof ++ requests_count_text (length b.requests) ++ first_id_text b.requests ++ signers_text proof ++ line_end
+block_text number node b proof = block_told number node b proof ++ line_end
+
+unfoldable pub hash_front : List ℕ
+hash_front = codes " hash "
+
+-- the line of a block that is shown: its hash stands at the end, in hex
+abbrev pub show_text : ℕ → ℕ → Block → Proof → List ℕ
+show_text number node b proof = block_told number node b proof ++ hash_front ++ encode_lower (block_hash b) ++ line_end
 
 -- a block line for each delivery
 abbrev pub fact_text : ℕ → Fact → List ℕ

@@ -4,9 +4,13 @@ use Rattle.std.specs.List.{flat_map}
 use Rattle.ord_types.specs.declared.values.Mode.TheVariants.{Normal}
 use Rattle.ord_types.specs.declared.values.Kind.TheVariants.{Bft}
 use Rattle.ord_types.specs.declared.values.ReqKind.TheVariants.{Ordinary}
-use Rattle.safety_model.specs.Blocks.{Config, Request}
+use Rattle.ord_types.specs.declared.values.Proof.{Proof}
+use Rattle.ord_types.specs.declared.values.Proof.TheVariants as proof_of
+use Rattle.ord_types.specs.Genesis.{genesis_block}
+use Rattle.ord_types.specs.Spelling.{request_text}
+use Rattle.safety_model.specs.Blocks.{Block, Config, Request}
 use Rattle.script.specs.declared.command.Command.{Command}
-use Rattle.script.specs.declared.command.Command.TheVariants.{Genesis, Submit, Tick, Deliver, Flush}
+use Rattle.script.specs.declared.command.Command.TheVariants.{Genesis, Submit, Raw, Show, Tick, Deliver, Flush}
 use Rattle.script.specs.declared.command.Range.{Range}
 use Rattle.script_play.specs.declared.ending.Ending.{Ending}
 use Rattle.script_play.specs.declared.ending.Ending.TheVariants.{Limit}
@@ -14,7 +18,7 @@ use Rattle.script_play.specs.Turns.{Turn}
 use Rattle.node_model.specs.Steps.{Event}
 use Rattle.world_model.specs.Pools.{Answer, answer, pool_after}
 use Rattle.world_model.specs.Worlds.{Setting, World, Node, Entry, node_at, with_node, making, world_after, tick_of, entry, letter_from, marked, is_waiting}
-use Rattle.world_model.specs.Texts.{genesis_text, tick_text, deliver_text, flush_text, refused_text, limit_text, answer_text, fact_text, sent_text, closing_line}
+use Rattle.world_model.specs.Texts.{genesis_text, tick_text, deliver_text, flush_text, refused_text, limit_text, answer_text, fact_text, show_text, sent_text, closing_line}
 
 abbrev pub says : {W : Type 0} → List ℕ → W → Turn W
 says text w = record { printed = text; next = Ok w }
@@ -96,14 +100,27 @@ flush_turn setting number only (suc n) count w =
 
 -- SUBMIT
 
-abbrev pub submitted : {S : Type 0} → Node S → Request → Node S
-submitted node r = record { id = node.id; state = node.state; pool = pool_after node.pool r (answer node.pool r) }
+-- bytes come to the pool of a node
 
-abbrev pub submit_turn : {S T : Type 0} → ℕ → World S T → Node S → Request → Turn (World S T)
-submit_turn number w node r = says (answer_text number node.id (answer node.pool r)) (record w { nodes = with_node (submitted node r) w.nodes })
+abbrev pub submitted : {S : Type 0} → Node S → List ℕ → Node S
+submitted node bytes = record node { pool = pool_after node.pool bytes }
+
+abbrev pub submit_turn : {S T : Type 0} → ℕ → List ℕ → World S T → Node S → List ℕ → Turn (World S T)
+submit_turn number word w node bytes =
+    says (answer_text number word node.id (answer node.pool bytes)) (record w { nodes = with_node (submitted node bytes) w.nodes })
 
 abbrev pub ordinary : ℕ → ℕ → List ℕ → Request
 ordinary client serial payload = record { kind = Ordinary; id = record { client = client; serial = serial }; payload = payload }
+
+-- SHOW
+
+abbrev pub shows : {S T : Type 0} → ℕ → World S T → Node S → Option (Block × Proof) → Turn (World S T)
+shows number w node None = refuses number (codes "no block") w
+shows number w node (Some stored) = says (show_text number node.id stored.0 stored.1) w
+
+-- the block of this number in the node's ledger
+abbrev pub show_turn : {S T : Type 0} → ℕ → World S T → Node S → ℕ → Turn (World S T)
+show_turn number w node block = shows number w node (slice_get node.ledger block)
 
 -- GENESIS
 
@@ -121,7 +138,7 @@ first_config members =
 abbrev pub first_world : {S T : Type 0} → Setting S T → Config → World S T
 first_world setting c =
     record {
-      nodes = map (λ id. record { id = id; state = setting.ways.opens c id; pool = [] }) c.members;
+      nodes = map (λ id. record { id = id; state = setting.ways.opens c id; pool = []; ledger = (genesis_block c, proof_of.Raft) ∷ [] }) c.members;
       network = [];
       seals = [];
       told = setting.silent;
@@ -137,7 +154,9 @@ at_node number w (Some node) turn = turn node
 abbrev pub turn_in : {S T : Type 0} → Setting S T → ℕ → World S T → Command → Turn (World S T)
 turn_in setting number w (Genesis members) = refuses number (codes "second genesis") w
 turn_in setting number w (Submit id client serial payload) =
-    at_node number w (node_at id w.nodes) (λ node. submit_turn number w node (ordinary client serial payload))
+    at_node number w (node_at id w.nodes) (λ node. submit_turn number (codes "submit") w node (request_text (ordinary client serial payload)))
+turn_in setting number w (Raw id bytes) = at_node number w (node_at id w.nodes) (λ node. submit_turn number (codes "raw") w node bytes)
+turn_in setting number w (Show id block) = at_node number w (node_at id w.nodes) (λ node. show_turn number w node block)
 turn_in setting number w (Tick id count) = at_node number w (node_at id w.nodes) (λ node. ticks setting number id count w)
 turn_in setting number w (Deliver ranges) = deliver_turn setting number ranges 0 w
 turn_in setting number w (Flush only) = flush_turn setting number only most_flushed 0 w

@@ -3,12 +3,13 @@ use Rattle.std.specs.Prelude.{ℕ, zero, suc, Bool, true, false, ◌&&◌, ◌==
 use Rattle.std.specs.Int.{w64, to_be_bytes}
 use Rattle.std.specs.List.{flat_map, find}
 use Rattle.ord_types.specs.Members.{is_in}
-use Rattle.safety_model.specs.Blocks.{Request}
+use Rattle.ord_types.specs.declared.values.Proof.{Proof}
+use Rattle.safety_model.specs.Blocks.{Block, Request}
 use Rattle.safety_model.specs.declared.fact.Fact.{Fact}
 use Rattle.safety_model.specs.declared.fact.Fact.TheVariants.{Delivered}
 use Rattle.signer_edge.specs.declared.seals.Seal.{Seal}
 use Rattle.signer_edge.specs.Seals.{is_sealed}
-use Rattle.node_model.specs.Letters.{Message}
+use Rattle.bft_wire.specs.Spelling.{message_text}
 use Rattle.node_model.specs.Acts.{may_propose}
 use Rattle.node_model.specs.Steps.{Ways, Keys, Making, Post, Event, Tick, FromMember, next}
 use Rattle.world_model.specs.Pools.{offer, settled}
@@ -19,16 +20,18 @@ pub record Setting (S T : Type 0) : Type 0 where
   pub silent : T
   pub hears : List Fact → T → T
 
+-- its ledger has each block with what stands behind it, from block 0 on
 pub record Node (S : Type 0) : Type 0 where
   pub id : ℕ
   pub state : S
   pub pool : List Request
+  pub ledger : List (Block × Proof)
 
--- a message that was sent, and whether it has come to its receiver yet
+-- the bytes of a message that was sent, and whether they have come to their receiver yet
 pub record Entry : Type 0 where
   pub from : ℕ
   pub to : ℕ
-  pub message : Message
+  pub bytes : List ℕ
   pub came : Bool
 
 -- nodes by rising id; entries and seals in the order in which they were made
@@ -65,6 +68,11 @@ abbrev pub requests_in : Fact → List Request
 requests_in (Delivered i b proof) = b.requests
 requests_in _ = []
 
+-- what a fact adds to the ledger of its node
+abbrev pub stored_in : Fact → List (Block × Proof)
+stored_in (Delivered i b proof) = (b, proof) ∷ []
+stored_in _ = []
+
 -- a Tick brings the pool's offer, where the node may propose
 abbrev pub offer_to : {S : Type 0} → Ways S → Node S → List Request
 offer_to ways node = if may_propose (ways.place node.state) (ways.view node.state) then offer node.pool else []
@@ -78,10 +86,16 @@ abbrev pub making : {S T : Type 0} → Setting S T → World S T → Node S → 
 making setting w node event = next setting.ways (keys_of w.seals node.id) node.state event
 
 abbrev pub node_after : {S : Type 0} → Node S → Making S → Node S
-node_after node m = record { id = node.id; state = m.state; pool = settled (flat_map requests_in m.facts) node.pool }
+node_after node m =
+    record {
+      id = node.id;
+      state = m.state;
+      pool = settled (flat_map requests_in m.facts) node.pool;
+      ledger = node.ledger ++ flat_map stored_in m.facts;
+    }
 
 abbrev pub sent_by : ℕ → List Post → List Entry
-sent_by i posts = map (λ (post : Post). record { from = i; to = post.to; message = post.message; came = false }) posts
+sent_by i posts = map (λ (post : Post). record { from = i; to = post.to; bytes = message_text post.message; came = false }) posts
 
 abbrev pub world_after : {S T : Type 0} → Setting S T → World S T → Node S → Making S → World S T
 world_after setting w node m =
@@ -99,7 +113,7 @@ entry zero w = None
 entry (suc k) w = slice_get w.network k
 
 abbrev pub letter_from : Entry → Event
-letter_from e = FromMember (record { from = e.from; message = e.message })
+letter_from e = FromMember e.from e.bytes
 
 -- the entry at place k, counted from 0, has come
 abbrev pub marked : {S T : Type 0} → ℕ → Entry → World S T → World S T

@@ -1,7 +1,8 @@
 -- What a step has made so far, in the code and by its definition.
 use Rattle.std.specs.Prelude.{◌≡◌, ℕ, List, ◌++◌, map, Option, Some, None, string_bytes}
 use Rattle.std.specs.List.{flat_map}
-use Rattle.safety_model.specs.Blocks.{Request}
+use Rattle.ord_types.specs.declared.values.Proof.{Proof}
+use Rattle.safety_model.specs.Blocks.{Block, Request}
 use Rattle.signer_edge.specs.declared.seals.Seal.{Seal}
 use Rattle.signer_edge.specs.Seals.{is_sealed}
 use Rattle.signer_edge.specs.Accepts.{Accepts}
@@ -13,7 +14,7 @@ use Rattle.node_model.specs.Cores.{Core, core_ways}
 use Rattle.node_model.specs.Steps.{Keys, Making, accept_round, prepare_round}
 use Rattle.world_model.specs.Pools.{settled}
 use Rattle.world_model.specs.Texts.{fact_text}
-use Rattle.world_model.specs.Worlds.{Entry, keys_of, requests_in, seals_of, sent_by}
+use Rattle.world_model.specs.Worlds.{Entry, keys_of, requests_in, seals_of, sent_by, stored_in}
 use Rattle.world_run.specs.Entries.{entry_of}
 use Rattle.world_run.specs.declared.node.Node.{Node}
 use Rattle.world_run.specs.declared.node.Outside.{Outside}
@@ -23,6 +24,7 @@ pub record Before : Type 0 where
   pub id : ℕ
   pub number : ℕ
   pub pool : List Request
+  pub ledger : List (Block × Proof)
   pub network : List Entry
   pub seals : List Seal
   pub text : List ℕ
@@ -41,6 +43,7 @@ pub record Makes (b : Before) (m : Making Core) (told : Act) (node : Node) (outs
   pub view : node.view ≡ after_act told m.state.view
   pub me : m.state.view.me ≡ b.id
   pub pool : node.pool.items ≡ settled (flat_map requests_in m.facts) b.pool
+  pub ledger : node.ledger.items ≡ b.ledger ++ flat_map stored_in m.facts
   pub network : map entry_of outside.network.items ≡ b.network ++ sent_by b.id m.posts
   pub seat : outside.seat ≡ record { id = b.id; seals = b.seals ++ seals_of b.id m.signed }
   pub number : outside.number ≡ b.number
@@ -50,6 +53,7 @@ pub record Makes (b : Before) (m : Making Core) (told : Act) (node : Node) (outs
 pub record Stands (b : Before) (node : Node) (outside : Outside) : Type 0 where
   pub id : node.id ≡ b.id
   pub pool : node.pool.items ≡ b.pool
+  pub ledger : node.ledger.items ≡ b.ledger
   pub network : map entry_of outside.network.items ≡ b.network
   pub seat : outside.seat ≡ record { id = b.id; seals = b.seals }
   pub number : outside.number ≡ b.number

@@ -7,4 +7,4 @@ abbrev pub core_of : Node → Core
 core_of node = record { place = node.place; view = node.view }
 
 abbrev pub node_of : Node → worlds.Node Core
-node_of node = record { id = node.id; state = core_of node; pool = node.pool.items }
+node_of node = record { id = node.id; state = core_of node; pool = node.pool.items; ledger = node.ledger.items }

@@ -1,21 +1,22 @@
 //! The messages that were sent.
 ghost use Rattle.std.specs.Prelude.{◌≡◌, ◌++◌, OnOk, map};
+ghost use Rattle.bft_wire.specs.Lengths.{FitsMessage};
 ghost use Rattle.node_model.specs.Steps.{to_all};
 ghost use Rattle.world_model.specs.Worlds.{sent_by};
 ghost use Rattle.world_run.specs.Entries.{entry_of};
 
-use bft_wire::Message;
-use ord_types::NoMemory;
+use bft_wire::{Message, encode};
+use ord_types::{Bytes, NoMemory};
 use std::alloc::Global;
 use std::rc::Rc;
 
-/// A message that was sent, and whether it has come to its receiver yet. A message to several receivers
-/// stands in memory once.
+/// The bytes of a message that was sent, and whether they have come to their receiver yet. A message to
+/// several receivers stands in memory once.
 #[derive(Drop)]
 pub(crate) struct Entry {
     pub(crate) from: u32,
     pub(crate) to: u32,
-    pub(crate) message: Rc<Message>,
+    pub(crate) bytes: Rc<Bytes>,
     pub(crate) came: bool,
 }
 
@@ -24,19 +25,22 @@ pub(crate) fn send_to_all(
     alloc: Global,
     members: &[u32],
     from: u32,
-    message: Message,
+    message: &Message,
     network: &mut Vec<Entry>,
 ) -> Result<(), NoMemory>
-    ensures { OnOk result (map entry_of network.new.items ≡ map entry_of network.old.items ++ sent_by from (to_all members.now from message)) }
+    requires { FitsMessage message.now }
+    ensures { OnOk result (map entry_of network.new.items ≡ map entry_of network.old.items ++ sent_by from (to_all members.now from message.now)) }
 {
-    let shared = Rc::new(alloc, message)?;
+    let mut bytes = Bytes::new(alloc);
+    encode(message, &mut bytes)?;
+    let shared = Rc::new(alloc, bytes)?;
     for to in members {
         if *to != from {
-            let message = shared.clone()?;
+            let bytes = shared.clone()?;
             network.push(Entry {
                 from,
                 to: *to,
-                message,
+                bytes,
                 came: false,
             })?;
         }

@@ -1,7 +1,13 @@
 //! A node of the world, and its steps.
 ghost use Rattle.std.specs.Prelude.{◌≡◌, ◌≢◌, ◌∷◌, ◌++◌, [], ◌<◌, ◌≤◌, ◌^◌, IfOk, OnOk, Some, None, length, map, string_bytes, suc, zero};
 ghost use Rattle.std.specs.List.{flat_map};
-ghost use Rattle.ord_types.specs.Genesis.{IsGenesisConfig};
+ghost use Rattle.std.specs.Prelude.{ℕ, IfSome, List as Items};
+ghost use Rattle.ord_types.specs.Genesis.{IsGenesisConfig, genesis_block};
+ghost use Rattle.ord_types.specs.Lengths.{FitsBlock, FitsCert, FitsSig};
+ghost use Rattle.ord_types.specs.declared.values.Proof.TheVariants as proof_of;
+ghost use Rattle.bft_wire.specs.Lengths.{FitsMessage};
+ghost use Rattle.bft_wire.specs.Reading.{message_in};
+ghost use Rattle.view_core.specs.Acts.{FitsAct};
 ghost use Rattle.ord_types.specs.Hashes.{block_hash};
 ghost use Rattle.signer_edge.specs.Seals.{SealsOne, next_sig, with_seal};
 ghost use Rattle.bft_wire.specs.declared.message.Message.TheVariants as message_of;
@@ -33,9 +39,10 @@ ghost use Rattle.world_run.specs.Standing.{IsAt};
 use crate::network::{Entry, send_to_all};
 use crate::pool::{offer, settle};
 use crate::texts::put_block;
-use bft_wire::{Commit, Message, PrePrepare, Prepare};
+use bft_wire::{Commit, Message, PrePrepare, Prepare, decode};
 use ord_types::{
-    Block, Cert, Config, Copied, Digest, NoMemory, Place, Request, Sig, block_hash, genesis_block,
+    Block, Cert, Config, Copied, Digest, NoMemory, Place, Proof, ReadFault, Request, Sig,
+    block_hash, genesis_block,
 };
 use signer_edge::{SealSeat, SignFault, Signer, commit_statement};
 use std::alloc::Global;
@@ -44,13 +51,15 @@ use view_core::{Act, ViewState};
 /// No number of a block reaches this.
 const MOST_NUMBER: u64 = 1 << 62;
 
-/// A node: where its ledger stands, what it holds of its view, and its waiting requests.
+/// A node: where its ledger stands, what it holds of its view, its waiting requests, and its ledger.
 #[derive(Drop)]
 pub(crate) struct Node {
     pub(crate) id: u32,
     pub(crate) place: Place,
     pub(crate) view: ViewState,
     pub(crate) pool: Vec<Request>,
+    /// Each block with what stands behind it, from block 0 on.
+    pub(crate) ledger: Vec<(Block, Proof)>,
     ghost is_me: { view.me ≡ id },
     ghost standing: { IsPlace place },
     ghost is_at: { IsAt place view },
@@ -68,25 +77,27 @@ pub(crate) struct Outside {
 }
 
 /// The place on the first block of a configuration.
-fn first_place(alloc: Global, config: &Config) -> Result<Place, NoMemory>
-    requires { IsGenesisConfig config.now }
+fn first_place(config: &Config, genesis: &Block) -> Result<Place, NoMemory>
+    requires config { IsGenesisConfig config.now }
+    requires genesis { genesis.now ≡ genesis_block config.now }
     ensures place { IfOk result (λ place. place ≡ first_place config.now) }
     ensures standing { IfOk result IsPlace }
 {
-    let genesis = genesis_block(alloc, config)?;
     Ok(Place {
         config: config.copy()?,
         start: 1,
         height: 1,
         last: block_hash(&genesis.header),
-        last_meta: genesis.meta,
+        last_meta: genesis.meta.copy()?,
         last_cert: None,
     })
 }
 
 /// The certificate that a proposal carries.
 fn carried_cert(place: &Place) -> Result<Option<Cert>, NoMemory>
-    ensures { IfOk result (λ cert. cert ≡ carried_cert place.now) }
+    requires { IfSome place.now.last_cert FitsCert }
+    ensures cert { IfOk result (λ cert. cert ≡ carried_cert place.now) }
+    ensures fits { IfOk result (λ cert. IfSome cert FitsCert) }
 {
     if place.height == place.start {
         return Ok(None);
@@ -100,6 +111,7 @@ fn carried_cert(place: &Place) -> Result<Option<Cert>, NoMemory>
 /// Signs a statement. A box of seals never fails but for want of memory.
 fn signed(seat: &mut SealSeat, statement: &[u8]) -> Result<Sig, NoMemory>
     ensures sig { IfOk result (λ sig. sig ≡ next_sig seat.old) }
+    ensures fits { IfOk result FitsSig }
     ensures seat { OnOk result (seat.new ≡ with_seal seat.old statement.now) }
 {
     match seat.sign(statement) {
@@ -130,20 +142,33 @@ impl Node {
         ensures id { IfOk result (λ node. node.id ≡ id) }
         ensures core { IfOk result (λ node. record { place = node.place; view = node.view } ≡ core_opens config.now id) }
         ensures pool { IfOk result (λ node. node.pool.items ≡ []) }
+        ensures ledger { IfOk result (λ node. node.ledger.items ≡ (genesis_block config.now, proof_of.Raft) ∷ []) }
     {
-        let place = first_place(alloc, config)?;
+        let genesis = genesis_block(alloc, config)?;
+        let place = first_place(config, &genesis)?;
         let mut view = ViewState::new(alloc, id)?;
         view.go_to(&place);
+        let mut ledger = Vec::new(alloc);
+        ledger.push((genesis, Proof::Raft))?;
         Ok(Node {
             id,
             place,
             view,
             pool: Vec::new(alloc),
+            ledger,
         })
     }
 
-    fn send(&self, message: Message, outside: &mut Outside) -> Result<(), NoMemory>
-        ensures sent { OnOk result (map entry_of outside.new.network.items ≡ map entry_of outside.old.network.items ++ sent_by self.now.id (to_all self.now.place.config.members self.now.id message)) }
+    /// The block of this number, with what stands behind it.
+    pub(crate) fn stored(&self, number: u64) -> Option<&(Block, Proof)>
+        ensures { option_copied result ≡ slice_get self.now.ledger.items number }
+    {
+        self.ledger.get(number as usize)
+    }
+
+    fn send(&self, message: &Message, outside: &mut Outside) -> Result<(), NoMemory>
+        requires { FitsMessage message.now }
+        ensures sent { OnOk result (map entry_of outside.new.network.items ≡ map entry_of outside.old.network.items ++ sent_by self.now.id (to_all self.now.place.config.members self.now.id message.now)) }
         ensures seat { outside.new.seat ≡ outside.old.seat }
         ensures number { outside.new.number ≡ outside.old.number }
         ensures text { outside.new.text ≡ outside.old.text }
@@ -171,11 +196,12 @@ impl Node {
             number: self.place.height,
             digest: block_hash(&block.header),
         };
-        self.send(Message::Prepare(prepare), outside)
+        self.send(&Message::Prepare(prepare), outside)
     }
 
     /// What follows a proposal.
     fn send_proposal(&self, block: Block, outside: &mut Outside) -> Result<(), NoMemory>
+        requires { FitsBlock block }
         ensures sent { OnOk result (map entry_of outside.new.network.items ≡ map entry_of outside.old.network.items ++ sent_by self.now.id (flat_map (to_all self.now.place.config.members self.now.id) (preprepare_message self.now.place self.now.view block ∷ prepare_message self.now.place self.now.view block ∷ []))) }
         ensures seat { outside.new.seat ≡ outside.old.seat }
         ensures number { outside.new.number ≡ outside.old.number }
@@ -195,12 +221,13 @@ impl Node {
             number: self.place.height,
             digest,
         };
-        self.send(Message::PrePrepare(proposal), outside)?;
-        self.send(Message::Prepare(prepare), outside)
+        self.send(&Message::PrePrepare(proposal), outside)?;
+        self.send(&Message::Prepare(prepare), outside)
     }
 
     /// The act that is due now.
     fn told(&mut self, outside: &Outside) -> Result<Act, NoMemory>
+        ensures fits { IfOk result FitsAct }
         ensures makes { IfOk result (λ told. (b : Before) (m : Making Core) → Makes b m act_of.Kept self.old outside.now → Makes b m told self.new outside.now) }
         ensures due { IfOk result (λ told. (b : Before) (m : Making Core) → Makes b m act_of.Kept self.old outside.now → IsDue b m told) }
     {
@@ -209,6 +236,7 @@ impl Node {
 
     /// What follows an acceptance: a Prepare to all. The answer is the next act that is due.
     fn accept(&mut self, block: &Block, outside: &mut Outside) -> Result<Act, NoMemory>
+        ensures fits { IfOk result FitsAct }
         ensures makes { IfOk result (λ told. (b : Before) (m : Making Core) → Makes b m (act_of.Accept block.now) self.old outside.old → Makes b (makes_accepted core_ways block.now [] m) told self.new outside.new) }
         ensures due { IfOk result (λ told. (b : Before) (m : Making Core) → Makes b m (act_of.Accept block.now) self.old outside.old → IsDue b (makes_accepted core_ways block.now [] m) told) }
     {
@@ -219,6 +247,7 @@ impl Node {
     /// What follows a preparation: the signature, a Commit to all, and the own one. The answer is the next
     /// act that is due.
     fn prepare(&mut self, digest: Digest, outside: &mut Outside) -> Result<Act, NoMemory>
+        ensures fits { IfOk result FitsAct }
         ensures makes { IfOk result (λ told. (b : Before) (m : Making Core) → Makes b m (act_of.Prepare digest) self.old outside.old → Makes b (makes_prepared core_ways (keys_before b) digest m) told self.new outside.new) }
         ensures due { IfOk result (λ told. (b : Before) (m : Making Core) → Makes b m (act_of.Prepare digest) self.old outside.old → IsDue b (makes_prepared core_ways (keys_before b) digest m) told) }
     {
@@ -234,30 +263,35 @@ impl Node {
             digest,
             sig,
         };
-        self.send(Message::Commit(commit.copy()?), outside)?;
+        self.send(&Message::Commit(commit.copy()?), outside)?;
         self.view
             .on_commit(&self.place, self.id, commit, &outside.seat)
     }
 
     /// What follows a delivery: the line of the block, and the next place.
     fn deliver(&mut self, block: Block, cert: Cert, outside: &mut Outside) -> Result<(), NoMemory>
+        requires { FitsCert cert }
         ensures { OnOk result ((b : Before) (m : Making Core) → Makes b m (act_of.Deliver block cert) self.old outside.old → Makes b (makes_delivered core_ways block cert m) act_of.Kept self.new outside.new) }
     {
         if self.place.height + 1 >= MOST_NUMBER || block.meta.decided >= MOST_NUMBER {
             return Err(NoMemory);
         }
-        put_block(&mut outside.text, outside.number, self.id, &block, &cert)?;
+        self.place.last_meta = block.meta.copy()?;
+        self.place.last_cert = Some(cert.copy()?);
+        let proof = Proof::Bft(cert);
+        put_block(&mut outside.text, outside.number, self.id, &block, &proof)?;
         settle(&mut self.pool, block.requests.as_slice());
         self.place.height += 1;
         self.place.last = block_hash(&block.header);
-        self.place.last_meta = block.meta;
-        self.place.last_cert = Some(cert);
+        self.ledger.push((block, proof))?;
         self.view.go_to(&self.place);
         Ok(())
     }
 
     /// Accepts what is due, from a told act on. The answer is the act that is due then.
     fn acceptance(&mut self, told: Act, outside: &mut Outside) -> Result<Act, NoMemory>
+        requires { FitsAct told }
+        ensures fits { IfOk result FitsAct }
         ensures makes { IfOk result (λ next. (b : Before) (m : Making Core) → Makes b m told self.old outside.old → IsDue b m told → Makes b (accepted_in b m) next self.new outside.new) }
         ensures due { IfOk result (λ next. (b : Before) (m : Making Core) → Makes b m told self.old outside.old → IsDue b m told → IsDue b (accepted_in b m) next) }
     {
@@ -270,6 +304,8 @@ impl Node {
     /// Prepares what is due, from a told act on, where nothing is to be accepted. The answer is the act
     /// that is due then.
     fn preparation(&mut self, told: Act, outside: &mut Outside) -> Result<Act, NoMemory>
+        requires { FitsAct told }
+        ensures fits { IfOk result FitsAct }
         ensures makes { IfOk result (λ next. (b : Before) (m : Making Core) → Makes b m told self.old outside.old → IsDue b m told → HasNoneToAccept b m → Makes b (prepared_in b m) next self.new outside.new) }
         ensures due { IfOk result (λ next. (b : Before) (m : Making Core) → Makes b m told self.old outside.old → IsDue b m told → HasNoneToAccept b m → IsDelivery (prepared_in b m) next) }
     {
@@ -281,6 +317,8 @@ impl Node {
 
     /// Accepts and prepares what is due, from a told act on. The answer is the act that is due then.
     fn votes(&mut self, told: Act, outside: &mut Outside) -> Result<Act, NoMemory>
+        requires { FitsAct told }
+        ensures fits { IfOk result FitsAct }
         ensures makes { IfOk result (λ next. (b : Before) (m : Making Core) → Makes b m told self.old outside.old → IsDue b m told → Makes b (votes core_ways (keys_before b) m) next self.new outside.new) }
         ensures due { IfOk result (λ next. (b : Before) (m : Making Core) → Makes b m told self.old outside.old → IsDue b m told → IsDelivery (votes core_ways (keys_before b) m) next) }
     {
@@ -290,6 +328,7 @@ impl Node {
 
     /// Does all that is due from a told act on: votes, a delivery, and the same at the next number.
     fn rounds(&mut self, told: Act, outside: &mut Outside) -> Result<(), NoMemory>
+        requires { FitsAct told }
         ensures { OnOk result ((b : Before) (m : Making Core) → Makes b m told self.old outside.old → IsDue b m told → Makes b (rounds core_ways (keys_before b) 2 m) act_of.Kept self.new outside.new) }
     {
         let Act::Deliver(block, cert) = self.votes(told, outside)? else {
@@ -334,8 +373,9 @@ impl Node {
         outside: &Outside,
     ) -> Result<Act, NoMemory>
         requires { from ≢ self.old.id }
-        ensures makes { IfOk result (λ told. (b : Before) → Stands b self.old outside.now → Makes b (begins core_ways (keys_before b) (core_of self.old) (FromMember (record { from = from; message = message_of.Prepare message.now }))) told self.new outside.now) }
-        ensures due { IfOk result (λ told. (b : Before) → Stands b self.old outside.now → IsDue b (begins core_ways (keys_before b) (core_of self.old) (FromMember (record { from = from; message = message_of.Prepare message.now }))) told) }
+        ensures fits { IfOk result FitsAct }
+        ensures makes { IfOk result (λ told. (b : Before) (bytes : Items ℕ) → message_in bytes ≡ Some (message_of.Prepare message.now) → Stands b self.old outside.now → Makes b (begins core_ways (keys_before b) (core_of self.old) (FromMember from bytes)) told self.new outside.now) }
+        ensures due { IfOk result (λ told. (b : Before) (bytes : Items ℕ) → message_in bytes ≡ Some (message_of.Prepare message.now) → Stands b self.old outside.now → IsDue b (begins core_ways (keys_before b) (core_of self.old) (FromMember from bytes)) told) }
     {
         let told = self.view.on_prepare(&self.place, from, message);
         if let Act::Prepare(digest) = told {
@@ -344,10 +384,13 @@ impl Node {
         self.told(outside)
     }
 
-    /// What a message of another member brings: the act that is due with it.
-    fn comes(&mut self, from: u32, message: &Message, outside: &Outside) -> Result<Act, NoMemory>
-        ensures makes { IfOk result (λ told. (b : Before) → Stands b self.old outside.now → Makes b (begins core_ways (keys_before b) (core_of self.old) (FromMember (record { from = from; message = message.now }))) told self.new outside.now) }
-        ensures due { IfOk result (λ told. (b : Before) → Stands b self.old outside.now → IsDue b (begins core_ways (keys_before b) (core_of self.old) (FromMember (record { from = from; message = message.now }))) told) }
+    /// What a message of another member brings: the act that is due with it. One of a kind that has no rule
+    /// brings nothing.
+    fn hears(&mut self, from: u32, message: Message, outside: &Outside) -> Result<Act, NoMemory>
+        requires { FitsMessage message }
+        ensures fits { IfOk result FitsAct }
+        ensures makes { IfOk result (λ told. (b : Before) (bytes : Items ℕ) → message_in bytes ≡ Some message → Stands b self.old outside.now → Makes b (begins core_ways (keys_before b) (core_of self.old) (FromMember from bytes)) told self.new outside.now) }
+        ensures due { IfOk result (λ told. (b : Before) (bytes : Items ℕ) → message_in bytes ≡ Some message → Stands b self.old outside.now → IsDue b (begins core_ways (keys_before b) (core_of self.old) (FromMember from bytes)) told) }
     {
         if from == self.id {
             return self.told(outside);
@@ -355,26 +398,41 @@ impl Node {
         match message {
             Message::PrePrepare(message) => {
                 self.view
-                    .on_preprepare(&self.place, from, message.copy()?, &outside.seat)
+                    .on_preprepare(&self.place, from, message, &outside.seat)
             }
-            Message::Prepare(message) => self.on_prepare(from, message, outside),
+            Message::Prepare(message) => self.on_prepare(from, &message, outside),
             Message::Commit(message) => {
                 self.view
-                    .on_commit(&self.place, from, message.copy()?, &outside.seat)
+                    .on_commit(&self.place, from, message, &outside.seat)
             }
+            _ => self.told(outside),
         }
     }
 
-    /// A message comes from another member.
+    /// What bytes of another member bring: the act that is due with the message that they spell. Bytes that
+    /// spell none bring nothing.
+    fn comes(&mut self, from: u32, bytes: &[u8], outside: &Outside) -> Result<Act, NoMemory>
+        ensures fits { IfOk result FitsAct }
+        ensures makes { IfOk result (λ told. (b : Before) → Stands b self.old outside.now → Makes b (begins core_ways (keys_before b) (core_of self.old) (FromMember from bytes.now)) told self.new outside.now) }
+        ensures due { IfOk result (λ told. (b : Before) → Stands b self.old outside.now → IsDue b (begins core_ways (keys_before b) (core_of self.old) (FromMember from bytes.now)) told) }
+    {
+        match decode(outside.alloc, bytes) {
+            Ok(message) => self.hears(from, message, outside),
+            Err(ReadFault::NoMemory) => Err(NoMemory),
+            Err(_) => self.told(outside),
+        }
+    }
+
+    /// The bytes of a message come from another member.
     pub(crate) fn take(
         &mut self,
         from: u32,
-        message: &Message,
+        bytes: &[u8],
         outside: &mut Outside,
     ) -> Result<(), NoMemory>
-        ensures { OnOk result ((b : Before) → Stands b self.old outside.old → Makes b (next core_ways (keys_before b) (core_of self.old) (FromMember (record { from = from; message = message.now }))) act_of.Kept self.new outside.new) }
+        ensures { OnOk result ((b : Before) → Stands b self.old outside.old → Makes b (next core_ways (keys_before b) (core_of self.old) (FromMember from bytes.now)) act_of.Kept self.new outside.new) }
     {
-        let told = self.comes(from, message, outside)?;
+        let told = self.comes(from, bytes, outside)?;
         self.rounds(told, outside)
     }
 }

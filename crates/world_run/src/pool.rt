@@ -1,18 +1,13 @@
 //! The waiting requests of a node.
-ghost use Rattle.std.specs.Prelude.{◌≡◌, IfOk};
-ghost use Rattle.world_model.specs.Pools.{answer, has_id, offer, pool_after, settled};
+ghost use Rattle.std.specs.Prelude.{◌≡◌, IfOk, Ok};
+ghost use Rattle.safety_model.specs.Blocks.{is_ordinary};
+ghost use Rattle.world_model.specs.Pools.{answer, entered, has_id, judged, offer, pool_after, settled};
 ghost use Rattle.world_run.specs.Answers.{answer_of};
 
-use ord_types::{Copied, List, NoMemory, ReqId, Request};
+use ord_types::{Copied, List, NoMemory, ReadFault, ReqId, ReqKind, Request, whole_request};
 use std::alloc::Global;
 
-/// The greatest payload, in bytes.
-const MOST_PAYLOAD: usize = 65536;
-
-/// Where the length of the payload stands in a request: behind kind, client and serial.
-const PLACE_OF_LENGTH: u64 = 13;
-
-/// What a pool answers to a request.
+/// What a pool answers to bytes.
 #[derive(Clone, Copy, Debug, PartialEq, Eq)]
 pub(crate) enum Answer {
     Admitted,
@@ -27,19 +22,47 @@ fn has_id(id: ReqId, requests: &[Request]) -> bool
     requests.iter().any(|request| request.id == id)
 }
 
-/// Submits a request to a pool.
-pub(crate) fn submit(pool: &mut Vec<Request>, request: Request) -> Result<Answer, NoMemory>
-    ensures answer { IfOk result (λ given. answer_of given ≡ answer pool.old.items request) }
-    ensures after { IfOk result (λ given. pool.new.items ≡ pool_after pool.old.items request (answer pool.old.items request)) }
+fn is_ordinary(request: &Request) -> bool
+    ensures { result ≡ is_ordinary request.now }
 {
-    if request.payload.len() > MOST_PAYLOAD {
-        return Ok(Answer::Malformed(PLACE_OF_LENGTH));
+    match request.kind {
+        ReqKind::Ordinary => true,
+        ReqKind::Change => false,
+    }
+}
+
+/// Takes a request into a pool. No change is taken yet.
+fn enter(pool: &mut Vec<Request>, request: Request) -> Result<Answer, NoMemory>
+    ensures answer { IfOk result (λ given. answer_of given ≡ judged pool.old.items (Ok request)) }
+    ensures after { IfOk result (λ given. pool.new.items ≡ entered pool.old.items (Ok request)) }
+{
+    if !is_ordinary(&request) {
+        return Ok(Answer::Malformed(0));
     }
     if has_id(request.id, pool.as_slice()) {
         return Ok(Answer::KnownPending);
     }
     pool.push(request)?;
     Ok(Answer::Admitted)
+}
+
+/// Submits bytes to a pool.
+#[tactic(auto, unfolding(world_model::specs::Pools::request_in))]
+pub(crate) fn submit(
+    alloc: Global,
+    pool: &mut Vec<Request>,
+    bytes: &[u8],
+) -> Result<Answer, NoMemory>
+    ensures answer { IfOk result (λ given. answer_of given ≡ answer pool.old.items bytes.now) }
+    ensures after { IfOk result (λ given. pool.new.items ≡ pool_after pool.old.items bytes.now) }
+{
+    match whole_request(alloc, bytes) {
+        Ok(request) => enter(pool, request),
+        Err(ReadFault::Short(at)) => Ok(Answer::Malformed(at as u64)),
+        Err(ReadFault::BadField(at)) => Ok(Answer::Malformed(at as u64)),
+        Err(ReadFault::Trailing(at)) => Ok(Answer::Malformed(at as u64)),
+        Err(ReadFault::NoMemory) => Err(NoMemory),
+    }
 }
 
 /// What a pool offers for the next block: its first request.

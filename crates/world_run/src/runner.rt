@@ -1,18 +1,19 @@
 //! Runs the commands of a script on a world.
 ghost use Rattle.std.specs.Prelude.{◌≡◌, IfOk, IfSome, None, OnOk, Option, codes, string_bytes};
 ghost use Rattle.std.specs.Option.{option_map};
+ghost use Rattle.ord_types.specs.Spelling.{request_text};
 ghost use Rattle.script.specs.Commands.{AreIds, IsWellFormed};
 ghost use Rattle.script.specs.declared.command.Command.TheVariants as command_of;
 ghost use Rattle.script_play.specs.Turns.{IsLimit, Turned};
 ghost use Rattle.node_model.specs.Cores.{Core};
 ghost use Rattle.world_model.specs.Cores.{core_setting};
-ghost use Rattle.world_model.specs.Turns.{closing_of, refuses, turn_in, turn_of};
+ghost use Rattle.world_model.specs.Turns.{at_node, closing_of, ordinary, refuses, submit_turn, turn_in, turn_of};
 ghost use Rattle.world_model.specs.Worlds as worlds;
 ghost use Rattle.world_run.specs.Mapped.{world_of};
 
 use crate::texts::{put_genesis, put_refused, put_sent};
 use crate::world::World;
-use ord_types::{Bytes, List, NoMemory, ReqId};
+use ord_types::{Bytes, List, NoMemory, ReqId, ReqKind, Request, put_request};
 use script::Command;
 use script_play::{Ending, Machine};
 use std::alloc::Global;
@@ -71,6 +72,39 @@ fn refuse_node(world: &mut World) -> Result<Option<Ending>, NoMemory>
     Ok(None)
 }
 
+/// The greatest length that a request tells of its payload, in bytes.
+const MOST_LENGTH: usize = 4_294_967_295;
+
+/// An ordinary request as bytes. No line has room for a payload that is too long.
+fn ordinary(alloc: Global, id: ReqId, payload: Bytes) -> Result<Bytes, NoMemory>
+    ensures { IfOk result (λ bytes. bytes ≡ request_text (ordinary id.client id.serial payload)) }
+{
+    if payload.len() > MOST_LENGTH {
+        return Err(NoMemory);
+    }
+    let kind = ReqKind::Ordinary;
+    let mut bytes = Bytes::new(alloc);
+    put_request(&mut bytes, &Request { kind, id, payload })?;
+    Ok(bytes)
+}
+
+/// Submits bytes to a node's pool, by a line that begins with this word.
+fn submit_bytes(
+    world: &mut World,
+    node: u32,
+    word: &str,
+    bytes: &[u8],
+) -> Result<Option<Ending>, NoMemory>
+    ensures limit { IfOk result (λ ending. IfSome ending IsLimit) }
+    ensures turned { IfOk result (λ ending. Turned (at_node world.old.outside.number (world_of world.old) (worlds.node_at node (world_of world.old).nodes) (λ found. submit_turn world.old.outside.number word.now (world_of world.old) found bytes.now)) (string_bytes world.old.outside.text) (string_bytes world.new.outside.text) (world_of world.new) ending) }
+{
+    let Some(place) = world.find(node) else {
+        return refuse_node(world);
+    };
+    world.submit(node, place, word, bytes)?;
+    Ok(None)
+}
+
 fn submit(
     world: &mut World,
     node: u32,
@@ -80,10 +114,18 @@ fn submit(
     ensures limit { IfOk result (λ ending. IfSome ending IsLimit) }
     ensures turned { IfOk result (λ ending. Turned (turn_in core_setting world.old.outside.number (world_of world.old) (command_of.Submit node id.client id.serial payload)) (string_bytes world.old.outside.text) (string_bytes world.new.outside.text) (world_of world.new) ending) }
 {
+    let bytes = ordinary(world.outside.alloc, id, payload)?;
+    submit_bytes(world, node, "submit", bytes.as_slice())
+}
+
+fn show(world: &mut World, node: u32, number: u64) -> Result<Option<Ending>, NoMemory>
+    ensures limit { IfOk result (λ ending. IfSome ending IsLimit) }
+    ensures turned { IfOk result (λ ending. Turned (turn_in core_setting world.old.outside.number (world_of world.old) (command_of.Show node number)) (string_bytes world.old.outside.text) (string_bytes world.new.outside.text) (world_of world.new) ending) }
+{
     let Some(place) = world.find(node) else {
         return refuse_node(world);
     };
-    world.submit(node, place, id, payload)?;
+    world.show(node, place, number)?;
     Ok(None)
 }
 
@@ -118,6 +160,8 @@ fn turn_in(world: &mut World, command: Command) -> Result<Option<Ending>, NoMemo
             serial,
             payload,
         } => submit(world, node, ReqId { client, serial }, payload),
+        Command::Raw { node, bytes } => submit_bytes(world, node, "raw", bytes.as_slice()),
+        Command::Show { node, number } => show(world, node, number),
         Command::Tick { node, count } => tick(world, node, count),
         Command::Deliver { ranges } => world.deliver(ranges.as_slice()),
         Command::Flush { only } => world.flush(&only),

@@ -3,26 +3,32 @@ ghost use Rattle.std.specs.Prelude.{◌≡◌, ◌++◌, OnOk, codes, decimal, l
 ghost use Rattle.std.specs.List.{flat_map};
 ghost use Rattle.signer_edge.specs.Certificates.{signers_in};
 ghost use Rattle.ord_types.specs.declared.values.Proof.TheVariants as proof_of;
+ghost use Rattle.hex.specs.Hex.{encode_lower};
 ghost use Rattle.safety_model.specs.Facts.{signers_of};
 ghost use Rattle.world_model.specs.Texts.{
   admitted_text,
   answer_text,
   block_front_text,
   block_text,
+  block_told,
   deliver_text,
   flush_text,
   first_id_text,
   genesis_text,
+  hash_front,
   id_text,
   ids_joined,
   limit_text,
   line_end,
   malformed_text,
   node_text,
+  order_text,
   pending_text,
+  raft_text,
   refused_text,
   requests_count_text,
   sent_text,
+  show_text,
   signers_text,
   tick_text,
   view_text,
@@ -30,7 +36,8 @@ ghost use Rattle.world_model.specs.Texts.{
 ghost use Rattle.world_run.specs.Answers.{answer_of};
 
 use crate::pool::Answer;
-use ord_types::{Block, Cert, ReqId, Request, Sig};
+use hex::encode;
+use ord_types::{Block, Cert, Digest, Proof, ReqId, Request, Sig, block_hash};
 use std::alloc::AllocError;
 
 #[tactic(auto, unfolding(world_model::specs::Texts::genesis_text))]
@@ -76,39 +83,46 @@ pub(crate) fn put_limit(text: &mut String, number: u64, limit: u64) -> Result<()
 }
 
 #[tactic(auto, unfolding(world_model::specs::Texts::admitted_text))]
-fn put_admitted(text: &mut String, number: u64, node: u32) -> Result<(), AllocError>
-    ensures { OnOk result (string_bytes text.new ≡ string_bytes text.old ++ admitted_text number node) }
+fn put_admitted(text: &mut String, number: u64, word: &str, node: u32) -> Result<(), AllocError>
+    ensures { OnOk result (string_bytes text.new ≡ string_bytes text.old ++ admitted_text number word.now node) }
 {
-    write!(text, "{number} submit {node} admitted\n")
+    write!(text, "{number} {word} {node} admitted\n")
 }
 
 #[tactic(auto, unfolding(world_model::specs::Texts::malformed_text))]
-fn put_malformed(text: &mut String, number: u64, node: u32, at: u64) -> Result<(), AllocError>
-    ensures { OnOk result (string_bytes text.new ≡ string_bytes text.old ++ malformed_text number node at) }
+fn put_malformed(
+    text: &mut String,
+    number: u64,
+    word: &str,
+    node: u32,
+    at: u64,
+) -> Result<(), AllocError>
+    ensures { OnOk result (string_bytes text.new ≡ string_bytes text.old ++ malformed_text number word.now node at) }
 {
-    write!(text, "{number} submit {node} malformed grammar {at}\n")
+    write!(text, "{number} {word} {node} malformed grammar {at}\n")
 }
 
 #[tactic(auto, unfolding(world_model::specs::Texts::pending_text))]
-fn put_pending(text: &mut String, number: u64, node: u32) -> Result<(), AllocError>
-    ensures { OnOk result (string_bytes text.new ≡ string_bytes text.old ++ pending_text number node) }
+fn put_pending(text: &mut String, number: u64, word: &str, node: u32) -> Result<(), AllocError>
+    ensures { OnOk result (string_bytes text.new ≡ string_bytes text.old ++ pending_text number word.now node) }
 {
-    write!(text, "{number} submit {node} known pending\n")
+    write!(text, "{number} {word} {node} known pending\n")
 }
 
-/// What a pool answered.
+/// What a pool answered to a line that begins with this word.
 pub(crate) fn put_answer(
     text: &mut String,
     number: u64,
+    word: &str,
     node: u32,
     answer: Answer,
 ) -> Result<(), AllocError>
-    ensures { OnOk result (string_bytes text.new ≡ string_bytes text.old ++ answer_text number node (answer_of answer)) }
+    ensures { OnOk result (string_bytes text.new ≡ string_bytes text.old ++ answer_text number word.now node (answer_of answer)) }
 {
     match answer {
-        Answer::Admitted => put_admitted(text, number, node),
-        Answer::Malformed(at) => put_malformed(text, number, node, at),
-        Answer::KnownPending => put_pending(text, number, node),
+        Answer::Admitted => put_admitted(text, number, word, node),
+        Answer::Malformed(at) => put_malformed(text, number, word, node, at),
+        Answer::KnownPending => put_pending(text, number, word, node),
     }
 }
 
@@ -193,11 +207,38 @@ fn put_ids(text: &mut String, sigs: &[Sig]) -> Result<(), AllocError>
 }
 
 #[tactic(auto, unfolding(world_model::specs::Texts::signers_front))]
-fn put_signers(text: &mut String, cert: &Cert) -> Result<(), AllocError>
+fn put_cert_signers(text: &mut String, cert: &Cert) -> Result<(), AllocError>
     ensures { OnOk result (string_bytes text.new ≡ string_bytes text.old ++ signers_text (proof_of.Bft cert.now)) }
 {
     text.push_str(" signers ")?;
     put_ids(text, cert.sigs.as_slice())
+}
+
+/// The signers of what stands behind a block.
+fn put_signers(text: &mut String, proof: &Proof) -> Result<(), AllocError>
+    ensures { OnOk result (string_bytes text.new ≡ string_bytes text.old ++ signers_text proof.now) }
+{
+    match proof {
+        Proof::Raft => Ok(()),
+        Proof::Bft(cert) => put_cert_signers(text, cert),
+    }
+}
+
+#[tactic(auto, unfolding(world_model::specs::Texts::raft_text))]
+fn put_raft(text: &mut String) -> Result<(), AllocError>
+    ensures { OnOk result (string_bytes text.new ≡ string_bytes text.old ++ raft_text) }
+{
+    text.push_str(" raft")
+}
+
+/// How a block was ordered.
+fn put_order(text: &mut String, proof: &Proof) -> Result<(), AllocError>
+    ensures { OnOk result (string_bytes text.new ≡ string_bytes text.old ++ order_text proof.now) }
+{
+    match proof {
+        Proof::Raft => put_raft(text),
+        Proof::Bft(cert) => put_view(text, cert.view),
+    }
 }
 
 #[tactic(auto, unfolding(world_model::specs::Texts::line_end))]
@@ -207,21 +248,58 @@ fn put_line_end(text: &mut String) -> Result<(), AllocError>
     text.push_str("\n")
 }
 
+/// What is told of a block.
+fn put_block_told(
+    text: &mut String,
+    number: u64,
+    node: u32,
+    block: &Block,
+    proof: &Proof,
+) -> Result<(), AllocError>
+    ensures { OnOk result (string_bytes text.new ≡ string_bytes text.old ++ block_told number node block.now proof.now) }
+{
+    put_block_front(text, number, node, block)?;
+    put_order(text, proof)?;
+    put_requests_count(text, block.requests.len())?;
+    put_first_id(text, block.requests.as_slice())?;
+    put_signers(text, proof)
+}
+
 /// The line of a delivered block.
 pub(crate) fn put_block(
     text: &mut String,
     number: u64,
     node: u32,
     block: &Block,
-    cert: &Cert,
+    proof: &Proof,
 ) -> Result<(), AllocError>
-    ensures { OnOk result (string_bytes text.new ≡ string_bytes text.old ++ block_text number node block.now (proof_of.Bft cert.now)) }
+    ensures { OnOk result (string_bytes text.new ≡ string_bytes text.old ++ block_text number node block.now proof.now) }
 {
-    put_block_front(text, number, node, block)?;
-    put_view(text, cert.view)?;
-    put_requests_count(text, block.requests.len())?;
-    put_first_id(text, block.requests.as_slice())?;
-    put_signers(text, cert)?;
+    put_block_told(text, number, node, block, proof)?;
+    put_line_end(text)
+}
+
+#[tactic(auto, unfolding(world_model::specs::Texts::hash_front))]
+fn put_hash(text: &mut String, hash: &Digest) -> Result<(), AllocError>
+    ensures { OnOk result (string_bytes text.new ≡ string_bytes text.old ++ (hash_front ++ encode_lower hash.now)) }
+{
+    let hex = encode(*text.allocator(), *hash)?;
+    text.push_str(" hash ")?;
+    text.push_str(&hex)
+}
+
+/// The line of a block that is shown.
+pub(crate) fn put_show(
+    text: &mut String,
+    number: u64,
+    node: u32,
+    block: &Block,
+    proof: &Proof,
+) -> Result<(), AllocError>
+    ensures { OnOk result (string_bytes text.new ≡ string_bytes text.old ++ show_text number node block.now proof.now) }
+{
+    put_block_told(text, number, node, block, proof)?;
+    put_hash(text, &block_hash(&block.header))?;
     put_line_end(text)
 }
 

@@ -16,7 +16,7 @@ ghost use Rattle.world_model.specs.Turns.{
   first_config,
   first_world,
   flush_turn,
-  ordinary,
+  show_turn,
   submit_turn,
   tick_at,
   ticks,
@@ -30,10 +30,10 @@ use crate::network::Entry;
 use crate::node::{Node, Outside};
 use crate::pool::submit;
 use crate::texts::{
-    put_answer, put_deliver, put_flush, put_limit, put_node, put_refused, put_sent, put_tick,
+    put_answer, put_deliver, put_flush, put_limit, put_node, put_refused, put_sent, put_show,
+    put_tick,
 };
-use bft_wire::Message;
-use ord_types::{Batch, Bytes, Config, Kind, List, Mode, NoMemory, ReqId, ReqKind, Request};
+use ord_types::{Batch, Config, Kind, List, Mode, NoMemory};
 use script::Range;
 use script_play::Ending;
 use signer_edge::{SealBox, SealSeat};
@@ -174,22 +174,22 @@ impl World {
         Ok(None)
     }
 
-    /// A message comes to the node of this id, which stands at this place.
+    /// The bytes of a message come to the node of this id, which stands at this place.
     fn take_at(
         &mut self,
         id: u32,
         place: usize,
         from: u32,
-        message: &Message,
+        bytes: &[u8],
     ) -> Result<Option<Ending>, NoMemory>
         requires { position (λ node. node.id == id) self.old.nodes.items ≡ Some place }
         ensures limit { IfOk result (λ ending. IfSome ending IsLimit) }
-        ensures turned { IfOk result (λ ending. (node : worlds.Node Core) → worlds.node_at id (world_of self.old).nodes ≡ Some node → Turned (event_turn core_setting self.old.outside.number (world_of self.old) node (FromMember (record { from = from; message = message.now }))) (string_bytes self.old.outside.text) (string_bytes self.new.outside.text) (world_of self.new) ending) }
+        ensures turned { IfOk result (λ ending. (node : worlds.Node Core) → worlds.node_at id (world_of self.old).nodes ≡ Some node → Turned (event_turn core_setting self.old.outside.number (world_of self.old) node (FromMember from bytes.now)) (string_bytes self.old.outside.text) (string_bytes self.new.outside.text) (world_of self.new) ending) }
         ensures number { OnOk result (self.new.outside.number ≡ self.old.outside.number) }
     {
         self.give_seat(id)?;
         let first_waiting = mem::replace(&mut self.first_waiting, 0);
-        self.nodes[place].take(from, message, &mut self.outside)?;
+        self.nodes[place].take(from, bytes, &mut self.outside)?;
         self.first_waiting = first_waiting;
         self.within_limit()
     }
@@ -205,10 +205,10 @@ impl World {
         entry.came = true;
         let from = entry.from;
         let to = entry.to;
-        let message = entry.message.clone()?;
+        let bytes = entry.bytes.clone()?;
         match self.find(to) {
             None => Ok(None),
-            Some(place) => self.take_at(to, place, from, message.as_ref()),
+            Some(place) => self.take_at(to, place, from, bytes.as_ref().as_slice()),
         }
     }
 
@@ -300,22 +300,37 @@ impl World {
         Ok(None)
     }
 
-    /// Submits an ordinary request to a node's pool.
+    /// Submits bytes to a node's pool, by a line that begins with this word.
     pub(crate) fn submit(
         &mut self,
         to: u32,
         place: usize,
-        id: ReqId,
-        payload: Bytes,
+        word: &str,
+        bytes: &[u8],
     ) -> Result<(), NoMemory>
         requires { position (λ node. node.id == to) self.old.nodes.items ≡ Some place }
-        ensures turned { OnOk result ((node : worlds.Node Core) → worlds.node_at to (world_of self.old).nodes ≡ Some node → Turned (submit_turn self.old.outside.number (world_of self.old) node (ordinary id.client id.serial payload)) (string_bytes self.old.outside.text) (string_bytes self.new.outside.text) (world_of self.new) None) }
+        ensures turned { OnOk result ((node : worlds.Node Core) → worlds.node_at to (world_of self.old).nodes ≡ Some node → Turned (submit_turn self.old.outside.number word.now (world_of self.old) node bytes.now) (string_bytes self.old.outside.text) (string_bytes self.new.outside.text) (world_of self.new) None) }
         ensures number { OnOk result (self.new.outside.number ≡ self.old.outside.number) }
     {
-        let kind = ReqKind::Ordinary;
+        let alloc = self.outside.alloc;
         let node = &mut self.nodes[place];
-        let answer = submit(&mut node.pool, Request { kind, id, payload })?;
-        put_answer(&mut self.outside.text, self.outside.number, to, answer)?;
+        let answer = submit(alloc, &mut node.pool, bytes)?;
+        put_answer(&mut self.outside.text, self.outside.number, word, to, answer)?;
+        Ok(())
+    }
+
+    /// Shows the block of this number in a node's ledger.
+    pub(crate) fn show(&mut self, id: u32, place: usize, number: u64) -> Result<(), NoMemory>
+        requires { position (λ node. node.id == id) self.old.nodes.items ≡ Some place }
+        ensures turned { OnOk result ((node : worlds.Node Core) → worlds.node_at id (world_of self.old).nodes ≡ Some node → Turned (show_turn self.old.outside.number (world_of self.old) node number) (string_bytes self.old.outside.text) (string_bytes self.new.outside.text) (world_of self.new) None) }
+        ensures number { OnOk result (self.new.outside.number ≡ self.old.outside.number) }
+    {
+        let line = self.outside.number;
+        let text = &mut self.outside.text;
+        match self.nodes[place].stored(number) {
+            None => put_refused(text, line, "no block")?,
+            Some((block, proof)) => put_show(text, line, id, block, proof)?,
+        }
         Ok(())
     }
 

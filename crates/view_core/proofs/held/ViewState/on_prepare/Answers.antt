@@ -1,5 +1,5 @@
 use Rattle.std.proofs.Common.{◌≡◌, subst}
-use Rattle.bft_wire.specs.declared.message.Message.TheVariants as message_of
+use Rattle.node_model.specs.declared.letter.VoteMessage.TheVariants as message_of
 use Rattle.node_model.specs.declared.letter.Letter.{Letter}
 use Rattle.node_model.specs.Acts.{View}
 use Rattle.node_model.specs.Answers.{accepts_nothing, after_act, kept_after, prepare_answer}

@@ -1,0 +1,15 @@
+use Rattle.std.proofs.Common.{arith}
+use Rattle.ord_types.specs.Reading.{report_at}
+use Rattle.ord_types.proofs.Answering.{found_of_all, only_of_all, stays_all}
+use Rattle.ord_types.proofs.ValueLaws.{report_law}
+use Rattle.ord_types.proofs.whole.whole_report.Goals as goal
+
+pub all_of-requires : goal.all_of-requires
+all_of-requires c = stays_all report_law c.args.bytes.now c.new-reader.result c.report-read.result c.report-read.new.self c.new-reader.ensures (λ i. omega (arith, c.type_inv.bytes i)) c.report-read.ensures
+
+pub returns-clause-found : goal.returns-clause-found
+returns-clause-found c =
+    found_of_all report_law c.args.bytes.now c.new-reader.result c.all_of.result c.new-reader.ensures (λ i. omega (arith, c.type_inv.bytes i)) (c.all_of.ensures (report_at c.new-reader.result) c.report-read.ensures)
+
+pub returns-clause-only : goal.returns-clause-only
+returns-clause-only c = only_of_all report_law c.args.bytes.now c.new-reader.result c.all_of.result c.new-reader.ensures (c.all_of.ensures (report_at c.new-reader.result) c.report-read.ensures)
