@@ -139,6 +139,45 @@ node 2 height 1 config 0 view 0 left 0
 sent 0
 ",
         ),
+        (
+            b"genesis bft 7 batch=1
+raw 7 00
+raw 7 01
+raw 7 0100000001000000000000000100000000ff
+raw 7 0100000001000000000000000100000001aa
+raw 7 0100000001000000000000000100000001bb
+raw 7 0200000001000000000000000200000000
+",
+            b"1 genesis
+2 raw 7 malformed grammar 0
+3 raw 7 malformed grammar 1
+4 raw 7 malformed grammar 17
+5 raw 7 admitted
+6 raw 7 known pending
+7 raw 7 malformed grammar 0
+node 7 height 1 config 0 view 0 left 0
+sent 0
+",
+        ),
+        (
+            b"genesis bft 1,2,3,4 batch=1
+show 1 0
+show 1 1
+show 9 0
+tick 9
+",
+            b"1 genesis
+2 block 1 0 config 0 raft requests 1 first 0:0 hash 0651a9d8988004632c994654b243e2ef417692ac286fe373a9c54ff4ca2f8f75
+3 refused no block
+4 refused unknown node
+5 refused unknown node
+node 1 height 1 config 0 view 0 left 0
+node 2 height 1 config 0 view 0 left 0
+node 3 height 1 config 0 view 0 left 0
+node 4 height 1 config 0 view 0 left 0
+sent 0
+",
+        ),
     ] {
         let (status, sink) = played(rt.alloc(), script, 0, 0)?;
         assert_eq!(rt; status, 0);
@@ -154,7 +193,7 @@ fn endings(rt: HostRuntime) -> Result<(), Fail> {
         (
             b"#\ntick x\nflush\n".as_slice(),
             3,
-            b"2 malformed\n".as_slice(),
+            b"2 malformed at 6\n".as_slice(),
         ),
         (
             b"flush\nstop 1 keep\n",

@@ -1,6 +1,6 @@
 -- Each value of a block has one spelling, so texts that do not collide keep blocks apart.
 use Rattle.std.proofs.Common.{◌≡◌, ℕ, suc, ◌*◌, ◌≤◌, ◌<◌, ◌^◌, Bool, true, ◌&&◌, List, [], ◌∷◌, ◌++◌, length, refl, sym, ap, ◌∙◌, inl, inr, arith, length-append}
-use Rattle.std.specs.Prelude.{◌==◌, nat_le}
+use Rattle.std.specs.Prelude.{nat_le}
 use Rattle.std.specs.Int.{w8, w32, w64, to_be_bytes, from_be_bytes}
 use Rattle.std.specs.List.{All, flat_map, list_all}
 use Rattle.std.specs.Str.{bytes_eq}
@@ -12,7 +12,7 @@ use Rattle.sha2.proofs.Facts256.{length-sha256}
 use Rattle.ord_types.specs.Hashes.{block_hash, content_hash, header_hash, meta_hash}
 use Rattle.ord_types.specs.Spelling.{header_text, ids_text, meta_text, request_kind_number, request_text, requests_text}
 use Rattle.ord_types.specs.declared.values.ReqKind.TheVariants.{Ordinary, Change}
-use Rattle.safety_model.specs.Blocks.{Block, Header, Meta, ReqKind, Request, has_room, have_room, hashes_fit, is_linked}
+use Rattle.safety_model.specs.Blocks.{Block, Header, Meta, ReqKind, Request, has_number, has_room, have_room, hashes_fit, is_linked}
 use Rattle.safety_model.specs.Facts.{History}
 use Rattle.safety_model.specs.State.{Setup}
 use Rattle.safety_model.specs.Safety.{Fits, IsBlockOf, NoCollision, RequestFits}
@@ -176,8 +176,8 @@ record Hashed (b : Block) : Type 0 where
 hashed : (before b : Block) (n : ℕ) → is_linked (block_hash before) n b ≡ true → Hashed b
 unfolding header_hash content_hash meta_hash
 hashed before b n h =
-    let r = and_parts ((b.header.number == n) && bytes_eq b.header.previous (block_hash before)) (hashes_fit b) h in
-    let previous = bytes_same b.header.previous (block_hash before) (and_parts (b.header.number == n) (bytes_eq b.header.previous (block_hash before)) r.0).1 in
+    let r = and_parts (has_number n b && bytes_eq b.header.previous (block_hash before)) (hashes_fit b) h in
+    let previous = bytes_same b.header.previous (block_hash before) (and_parts (has_number n b) (bytes_eq b.header.previous (block_hash before)) r.0).1 in
     let fits = and_parts (have_room b.requests && bytes_eq b.header.content (content_hash b.requests)) (has_room b.meta && bytes_eq b.header.meta (meta_hash b.meta)) r.1 in
     let c = and_parts (have_room b.requests) (bytes_eq b.header.content (content_hash b.requests)) fits.0 in
     let m = and_parts (has_room b.meta) (bytes_eq b.header.meta (meta_hash b.meta)) fits.1 in

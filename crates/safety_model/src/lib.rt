@@ -3,7 +3,6 @@
 
 ghost use Rattle.safety_model.specs.Safety.{RunsAgree};
 
-mod blocks;
 mod fact;
 mod history;
 mod log;
@@ -11,7 +10,6 @@ mod log;
 mod tests;
 mod widths;
 
-pub use blocks::{has_room, have_room, is_next};
 pub use fact::Fact;
 pub use log::{FactLog, FactRefusal};
 

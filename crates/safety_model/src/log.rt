@@ -13,12 +13,12 @@ ghost use Rattle.safety_model.specs.Rules.{Allowed, IsRun, count, keeps_bound, i
 ghost use Rattle.safety_model.specs.declared.fact.Fact.TheVariants as kinds;
 ghost use Rattle.safety_model.specs.Safety.{NoCollision, Agreement};
 
-use crate::blocks::is_next;
 use crate::fact::{Fact, Query};
 use crate::history::{
     are_signers, count_of, faulty_of, has_fact, height_of, is_among, signed_of, tip_of,
 };
 use crate::widths::fact_fits;
+use chan_config::is_next;
 use ord_types::{
     Block, Cert, Config, Digest, List, NoMemory, Proof, block_hash, fault_bound, quorum,
 };

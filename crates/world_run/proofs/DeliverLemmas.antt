@@ -1,7 +1,6 @@
 -- Lemmas on the delivery of an entry.
 use Rattle.std.proofs.Common.{◌≡◌, ℕ, ◌<◌, List, length, map, get_or, set, slice_get, position, eqb, true, Option, Some, None, Ok, [], refl, sym, ap, ◌∙◌}
 use Rattle.std.proofs.lemmas.List.{append-nil, map-set}
-use Rattle.bft_wire.specs.declared.message.Message.{Message}
 use Rattle.node_model.specs.Cores.{Core}
 use Rattle.node_model.specs.Steps.{FromMember}
 use Rattle.script_play.specs.declared.ending.Ending.{Ending}
@@ -44,16 +43,16 @@ delivered_nowhere w number at read e text within is nowhere has =
     Turned-same _ _ text text _ None (sym turn ∙ ap (λ (x : worlds.Entry). delivery core_setting number at x (world_of w)) (entry_read w.outside.network.items at read e within is has)) (record { printed = sym (append-nil text); next = refl })
 
 -- the receiver takes the message
-pub delivered_to_node : (w : World) (number at place : ℕ) (read : Entry) (message : Message) (e : worlds.Entry) (before after : List ℕ) (next : worlds.World Core (Unit {0})) (ending : Option Ending)
-    → at < length w.outside.network.items → read ≡ get_or w.outside.network.items at read → HasPlace read.to w.nodes.items place → message ≡ read.message.value
+pub delivered_to_node : (w : World) (number at place : ℕ) (read : Entry) (bytes : List ℕ) (e : worlds.Entry) (before after : List ℕ) (next : worlds.World Core (Unit {0})) (ending : Option Ending)
+    → at < length w.outside.network.items → read ≡ get_or w.outside.network.items at read → HasPlace read.to w.nodes.items place → bytes ≡ read.bytes.value
     → ((node : worlds.Node Core) → worlds.node_at read.to (map node_of w.nodes.items) ≡ Some node
-    → Turned (event_turn core_setting number (with_arrived w at read) node (FromMember (record { from = read.from; message = message }))) before after next ending)
+    → Turned (event_turn core_setting number (with_arrived w at read) node (FromMember read.from bytes)) before after next ending)
     → slice_get (map entry_of w.outside.network.items) at ≡ Some e
     → Turned (delivery core_setting number at e (world_of w)) before after next ending
-delivered_to_node w number at place read message e before after next ending within is has_place same taken has =
+delivered_to_node w number at place read bytes e before after next ending within is has_place same taken has =
     let node = node_at_some read.to w.nodes.items place has_place in
-    let event = λ (m : Message). event_turn core_setting number (with_arrived w at read) (node_of node.0) (FromMember (record { from = read.from; message = m })) in
-    let turn : delivery core_setting number at (entry_of read) (world_of w) ≡ event read.message.value = rw (node.1, marked_is w at read) refl in
+    let event = λ (m : List ℕ). event_turn core_setting number (with_arrived w at read) (node_of node.0) (FromMember read.from m) in
+    let turn : delivery core_setting number at (entry_of read) (world_of w) ≡ event read.bytes.value = rw (node.1, marked_is w at read) refl in
     Turned-same _ _ before after next ending
     (ap event same ∙ sym turn ∙ ap (λ (x : worlds.Entry). delivery core_setting number at x (world_of w)) (entry_read w.outside.network.items at read e within is has))
     (taken (node_of node.0) node.1)

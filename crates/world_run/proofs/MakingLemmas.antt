@@ -1,5 +1,5 @@
 -- What a call of a node adds to the step so far.
-use Rattle.std.proofs.Common.{◌≡◌, ℕ, true, false, ◌||◌, ◌==◌, List, [], ◌∷◌, ◌++◌, map, Option, Some, None, Result, Ok, Err, IfOk, OnOk, OnErr, refl, sym, ap, subst, ◌∙◌, inl, inr, append_assoc, arith, string_bytes, Vec, Global}
+use Rattle.std.proofs.Common.{option_map, option_and_then, ◌≡◌, ℕ, true, false, ◌||◌, ◌==◌, List, [], ◌∷◌, ◌++◌, map, Option, Some, None, Result, Ok, Err, IfOk, OnOk, OnErr, refl, sym, ap, subst, ◌∙◌, inl, inr, append_assoc, arith, string_bytes, Vec, Global}
 use Rattle.std.specs.List.{flat_map}
 use Rattle.std.proofs.lemmas.Bool.{cases_Bool, ne_eqb, eq-eqb}
 use Rattle.std.proofs.lemmas.List.{append-nil, map-append}
@@ -7,6 +7,7 @@ use Rattle.std.proofs.lemmas.List.Concat.{flat_map-append}
 use Rattle.ord_types.specs.Hashes.{block_hash}
 use Rattle.ord_types.specs.declared.values.Place.{Place}
 use Rattle.ord_types.specs.declared.values.Cert.{Cert}
+use Rattle.ord_types.specs.declared.values.Proof.{Proof}
 use Rattle.ord_types.specs.declared.values.Proof.TheVariants as proof_of
 use Rattle.ord_types.specs.declared.values.Sig.{Sig}
 use Rattle.ord_types.specs.declared.values.ReqId.{ReqId}
@@ -17,18 +18,22 @@ use Rattle.signer_edge.specs.Seals.{Seat, is_sealed, next_sig, with_seal}
 use Rattle.signer_edge.specs.Statements.{commit_text}
 use Rattle.signer_edge.specs.declared.seals.Seal.{Seal}
 use Rattle.bft_wire.specs.declared.reason.Reason.{Reason}
-use Rattle.bft_wire.specs.declared.message.Message.TheVariants as message_of
-use Rattle.node_model.specs.Letters.{Commit, Message}
+use Rattle.bft_wire.specs.declared.message.Message.{Message}
+use Rattle.bft_wire.specs.declared.message.Message.TheVariants as wire
+use Rattle.bft_wire.specs.Reading.{message_in}
+use Rattle.node_model.specs.declared.letter.VoteMessage.{VoteMessage}
+use Rattle.node_model.specs.declared.letter.VoteMessage.TheVariants as message_of
+use Rattle.node_model.specs.Letters.{Commit, PrePrepare, Prepare, letter_in, vote_in}
 use Rattle.node_model.specs.declared.letter.Letter.{Letter}
 use Rattle.node_model.specs.declared.act.Act.{Act}
 use Rattle.node_model.specs.declared.act.Act.TheVariants as act_of
 use Rattle.node_model.specs.Acts.{View, accept_act, carried_cert, deliver_act, due, may_propose, proposed}
 use Rattle.node_model.specs.Answers.{act_or, after_act, after_due, after_propose, after_vote, at_place, due_answer, kept_after, propose_answer, reason_or, vote_answer}
-use Rattle.node_model.specs.Cores.{Core, core_comes, core_ways, next_place}
+use Rattle.node_model.specs.Cores.{Core, core_comes, core_hears, core_ways, next_place}
 use Rattle.node_model.specs.Steps.{FromMember, Making, Post, begins, commit_message, makes_accepted, makes_delivered, makes_prepared, next, own_rule, prepare_message, preprepare_message, propose_round, to_all}
 use Rattle.world_model.specs.Pools.{has_id, offer, settled}
 use Rattle.world_model.specs.Texts.{block_text, fact_text}
-use Rattle.world_model.specs.Worlds.{Entry, offer_to, requests_in, seals_of, sent_by, tick_of}
+use Rattle.world_model.specs.Worlds.{Entry, offer_to, requests_in, seals_of, sent_by, stored_in, tick_of}
 use Rattle.world_run.specs.Entries.{entry_of}
 use Rattle.world_run.specs.Making.{Before, IsDue, Makes, Stands, accepts_in, act_in, keys_before}
 use Rattle.world_run.specs.Nodes.{core_of, node_of}
@@ -90,13 +95,14 @@ accepts_now : (b : Before) (m : Making Core) (told : Act) (node : Node) (outside
 accepts_now b m told node outside h = ap (λ (s : Seat). is_sealed s.seals) h.seat
 
 -- the same but for the view
-pub Makes-view : (b : Before) (m : Making Core) (told next : Act) (node new : Node) (outside : Outside) → Makes b m told node outside → new.id ≡ node.id → new.place ≡ node.place → new.pool.items ≡ node.pool.items → new.view ≡ after_act next m.state.view → Makes b m next new outside
-Makes-view b m told next node new outside h id place pool view = record {
+pub Makes-view : (b : Before) (m : Making Core) (told next : Act) (node new : Node) (outside : Outside) → Makes b m told node outside → new.id ≡ node.id → new.place ≡ node.place → new.pool.items ≡ node.pool.items → new.ledger.items ≡ node.ledger.items → new.view ≡ after_act next m.state.view → Makes b m next new outside
+Makes-view b m told next node new outside h id place pool ledger view = record {
   id = id ∙ h.id;
   place = place ∙ h.place;
   view = view;
   me = h.me;
   pool = pool ∙ h.pool;
+  ledger = ledger ∙ h.ledger;
   network = h.network;
   seat = h.seat;
   number = h.number;
@@ -132,6 +138,7 @@ makes_accepted-sent b m block first node old new h s =
       view = h.view;
       me = h.me;
       pool = h.pool ∙ ap (λ rs. settled rs b.pool) (sym (flat_map-quiet requests_in m.facts fact refl));
+      ledger = h.ledger ∙ ap (λ more. b.ledger ++ more) (sym (flat_map-quiet stored_in m.facts fact refl));
       network = sent_more b.network b.id m.posts posts _ _ h.network sent;
       seat = s.seat ∙ h.seat;
       number = s.number ∙ h.number;
@@ -144,7 +151,7 @@ makes_accepted-sent b m block first node old new h s =
 pub record Signs (node : Node) (old new : Outside) (digest : List ℕ) (own : Commit) : Type 0 where
   pub commit : own ≡ commit_message node.place node.view digest (next_sig old.seat)
   pub seat : new.seat ≡ with_seal old.seat (commit_text node.place.config.number node.view.view node.place.height digest)
-  pub network : map entry_of new.network.items ≡ map entry_of old.network.items ++ sent_by node.id (to_all node.place.config.members node.id (message_of.Commit own))
+  pub network : map entry_of new.network.items ≡ map entry_of old.network.items ++ sent_by node.id (to_all node.place.config.members node.id (wire.Commit own))
   pub number : new.number ≡ old.number
   pub text : new.text ≡ old.text
 
@@ -183,20 +190,21 @@ module _ (b : Before) (m : Making Core) (digest : List ℕ) (node : Node) (old n
   unfolding own_letter
   kept-same = kept_after-same _ _ node.place m.state.place (at_place node.place node.view) (after_act (act_of.Prepare digest) m.state.view) (own_letter node.id own) _ accepts-same h.place (at_place-at node.place node.view node.is_at ∙ h.view) letter-same
 
-  pub makes_prepared-sent : (told : Act) (now : Node) → now.id ≡ node.id → now.place ≡ node.place → now.pool.items ≡ node.pool.items → Votes (is_sealed new.seat.seals) node.place node.view (record { from = node.id; message = message_of.Commit own }) told now.view → Makes b (makes_prepared core_ways (keys_before b) digest m) told now new
+  pub makes_prepared-sent : (told : Act) (now : Node) → now.id ≡ node.id → now.place ≡ node.place → now.pool.items ≡ node.pool.items → now.ledger.items ≡ node.ledger.items → Votes (is_sealed new.seat.seals) node.place node.view (record { from = node.id; message = message_of.Commit own }) told now.view → Makes b (makes_prepared core_ways (keys_before b) digest m) told now new
   unfolding own_letter
-  makes_prepared-sent told now id place pool v =
+  makes_prepared-sent told now id place pool ledger v =
       let made = makes_prepared core_ways (keys_before b) digest m in
       let fact = fact_of.Prepared m.state.view.me m.state.place.config.number m.state.view.view m.state.place.height digest in
       let commit = commit_message m.state.place m.state.view digest ((keys_before b).signs m.signed) in
-      let posts = to_all m.state.place.config.members m.state.view.me (message_of.Commit commit) in
-      let sent : map entry_of new.network.items ≡ map entry_of old.network.items ++ sent_by b.id posts = s.network ∙ ap (λ i. map entry_of old.network.items ++ sent_by i (to_all node.place.config.members i (message_of.Commit own))) h.id ∙ ap (λ (p : Place). map entry_of old.network.items ++ sent_by b.id (to_all p.config.members b.id (message_of.Commit own))) h.place ∙ ap (λ x. map entry_of old.network.items ++ sent_by b.id (to_all m.state.place.config.members b.id (message_of.Commit x))) commit-same ∙ ap (λ i. map entry_of old.network.items ++ sent_by b.id (to_all m.state.place.config.members i (message_of.Commit commit))) (sym h.me) in
+      let posts = to_all m.state.place.config.members m.state.view.me (wire.Commit commit) in
+      let sent : map entry_of new.network.items ≡ map entry_of old.network.items ++ sent_by b.id posts = s.network ∙ ap (λ i. map entry_of old.network.items ++ sent_by i (to_all node.place.config.members i (wire.Commit own))) h.id ∙ ap (λ (p : Place). map entry_of old.network.items ++ sent_by b.id (to_all p.config.members b.id (wire.Commit own))) h.place ∙ ap (λ x. map entry_of old.network.items ++ sent_by b.id (to_all m.state.place.config.members b.id (wire.Commit x))) commit-same ∙ ap (λ i. map entry_of old.network.items ++ sent_by b.id (to_all m.state.place.config.members i (wire.Commit commit))) (sym h.me) in
       record {
         id = id ∙ h.id;
         place = place ∙ h.place;
         view = v.after ∙ ap (λ a. after_act a (kept_after (is_sealed new.seat.seals) node.place (at_place node.place node.view) (own_letter node.id own))) (sym v.answer) ∙ ap (λ w. after_act told w) kept-same;
         me = me-kept_after (accepts_in b made) m.state.place (after_act (act_of.Prepare digest) m.state.view) (record { from = m.state.view.me; message = message_of.Commit commit }) ∙ h.me;
         pool = pool ∙ h.pool ∙ ap (λ rs. settled rs b.pool) (sym (flat_map-quiet requests_in m.facts fact refl));
+        ledger = ledger ∙ h.ledger ∙ ap (λ more. b.ledger ++ more) (sym (flat_map-quiet stored_in m.facts fact refl));
         network = sent_more b.network b.id m.posts posts _ _ h.network sent;
         seat = seat-same;
         number = s.number ∙ h.number;
@@ -225,6 +233,7 @@ pub record Delivers (block : Block) (cert : Cert) (node now : Node) (old new : O
   pub place : now.place ≡ next_place node.place block cert
   pub view : now.view ≡ at_place now.place node.view
   pub pool : now.pool.items ≡ settled block.requests node.pool.items
+  pub ledger : now.ledger.items ≡ node.ledger.items ++ (block, proof_of.Bft cert) ∷ []
   pub network : new.network ≡ old.network
   pub seat : new.seat ≡ old.seat
   pub number : new.number ≡ old.number
@@ -240,6 +249,8 @@ makes_delivered-done b m block cert node now old new d h =
       view = d.view ∙ ap (λ p. at_place p node.view) (d.place ∙ ap (λ p. next_place p block cert) h.place) ∙ ap (λ w. at_place (next_place m.state.place block cert) w) h.view;
       me = me-at_place (next_place m.state.place block cert) m.state.view ∙ h.me;
       pool = d.pool ∙ ap (λ rs. settled block.requests rs) h.pool ∙ sym (settled-append (flat_map requests_in m.facts) block.requests b.pool) ∙ ap (λ rs. settled rs b.pool) (sym (flat_map-one requests_in m.facts fact));
+      ledger = d.ledger ∙ ap (λ (l : List (Block × Proof)). l ++ (block, proof_of.Bft cert) ∷ []) h.ledger
+          ∙ append_assoc b.ledger (flat_map stored_in m.facts) ((block, proof_of.Bft cert) ∷ []) ∙ ap (λ more. b.ledger ++ more) (sym (flat_map-one stored_in m.facts fact));
       network = ap (λ (v : Vec entries.Entry Global). map entry_of v.items) d.network ∙ h.network;
       seat = d.seat ∙ h.seat;
       number = d.number ∙ h.number;
@@ -264,13 +275,14 @@ no_delivery (Some d) e = cc
 pub commit-made : (place : Place) (w : View) (digest : List ℕ) (v : ℕ) (sig next : Sig) → v ≡ w.view → sig ≡ next → ◌≡◌ {A = Commit} (record { config = place.config.number; view = v; number = place.height; digest = digest; sig = sig }) (commit_message place w digest next)
 commit-made place w digest v sig next e f = rw (e, f)
 
-begun : (b : Before) (s : Core) (told : Act) (node now : Node) (outside : Outside) → Stands b node outside → now.id ≡ node.id → now.place ≡ s.place → now.pool.items ≡ node.pool.items → now.view ≡ after_act told s.view → s.view.me ≡ node.id → Makes b (record { state = s; facts = []; posts = []; signed = [] }) told now outside
-begun b s told node now outside h id place pool view me = record {
+begun : (b : Before) (s : Core) (told : Act) (node now : Node) (outside : Outside) → Stands b node outside → now.id ≡ node.id → now.place ≡ s.place → now.pool.items ≡ node.pool.items → now.ledger.items ≡ node.ledger.items → now.view ≡ after_act told s.view → s.view.me ≡ node.id → Makes b (record { state = s; facts = []; posts = []; signed = [] }) told now outside
+begun b s told node now outside h id place pool ledger view me = record {
   id = id ∙ h.id;
   place = place;
   view = view;
   me = me ∙ h.id;
   pool = pool ∙ h.pool ∙ sym (settled-none b.pool);
+  ledger = ledger ∙ h.ledger ∙ sym (append-nil b.ledger);
   network = h.network ∙ sym (append-nil b.network);
   seat = h.seat ∙ ap (λ (l : List Seal). record { id = b.id; seals = l }) (sym (append-nil b.seals));
   number = h.number;
@@ -292,13 +304,13 @@ tick_proposal node = proposed node.place node.view (offer_to core_ways (node_of 
 abbrev pub tick_begins : Before → Node → Making Core
 tick_begins b node = begins core_ways (keys_before b) (core_of node) (tick_of core_ways (node_of node))
 
-pub propose_none : (b : Before) (node now : Node) (outside : Outside) → tick_proposal node ≡ None → Stands b node outside → now.id ≡ node.id → now.place ≡ node.place → now.pool.items ≡ node.pool.items → now.view ≡ node.view → Makes b (own_rule core_ways (tick_of core_ways (node_of node)) (tick_begins b node)) act_of.Kept now outside
-propose_none b node now outside e h id place pool view =
-    subst (λ (x : Making Core). Makes b x act_of.Kept now outside) (sym (ap (λ o. propose_round core_ways o (tick_begins b node)) e)) (begun b (core_of node) act_of.Kept node now outside h id place pool view node.is_me)
+pub propose_none : (b : Before) (node now : Node) (outside : Outside) → tick_proposal node ≡ None → Stands b node outside → now.id ≡ node.id → now.place ≡ node.place → now.pool.items ≡ node.pool.items → now.ledger.items ≡ node.ledger.items → now.view ≡ node.view → Makes b (own_rule core_ways (tick_of core_ways (node_of node)) (tick_begins b node)) act_of.Kept now outside
+propose_none b node now outside e h id place pool ledger view =
+    subst (λ (x : Making Core). Makes b x act_of.Kept now outside) (sym (ap (λ o. propose_round core_ways o (tick_begins b node)) e)) (begun b (core_of node) act_of.Kept node now outside h id place pool ledger view node.is_me)
 
-pub propose_some : (b : Before) (node now : Node) (old new : Outside) (block : Block) → tick_proposal node ≡ Some block → Stands b node old → now.id ≡ node.id → now.place ≡ node.place → now.pool.items ≡ node.pool.items → now.view ≡ after_act (act_of.Accept block) node.view → Sends old new now.id (flat_map (to_all now.place.config.members now.id) (preprepare_message now.place now.view block ∷ prepare_message now.place now.view block ∷ [])) → Makes b (own_rule core_ways (tick_of core_ways (node_of node)) (tick_begins b node)) act_of.Kept now new
-propose_some b node now old new block e h id place pool view s =
-    subst (λ (x : Making Core). Makes b x act_of.Kept now new) (sym (ap (λ o. propose_round core_ways o (tick_begins b node)) e)) (makes_proposed-sent b (tick_begins b node) block now old new (begun b (core_of node) (act_of.Accept block) node now old h id place pool view node.is_me) s)
+pub propose_some : (b : Before) (node now : Node) (old new : Outside) (block : Block) → tick_proposal node ≡ Some block → Stands b node old → now.id ≡ node.id → now.place ≡ node.place → now.pool.items ≡ node.pool.items → now.ledger.items ≡ node.ledger.items → now.view ≡ after_act (act_of.Accept block) node.view → Sends old new now.id (flat_map (to_all now.place.config.members now.id) (preprepare_message now.place now.view block ∷ prepare_message now.place now.view block ∷ [])) → Makes b (own_rule core_ways (tick_of core_ways (node_of node)) (tick_begins b node)) act_of.Kept now new
+propose_some b node now old new block e h id place pool ledger view s =
+    subst (λ (x : Making Core). Makes b x act_of.Kept now new) (sym (ap (λ o. propose_round core_ways o (tick_begins b node)) e)) (makes_proposed-sent b (tick_begins b node) block now old new (begun b (core_of node) (act_of.Accept block) node now old h id place pool ledger view node.is_me) s)
 
 pub no_proposal : (node : Node) → false ≡ may_propose node.place node.view → tick_proposal node ≡ None
 no_proposal node e =
@@ -335,38 +347,47 @@ module _ (node : Node) (offered : List Request) (act : Act) (left : View) (may :
 
 -- A MESSAGE
 
-module _ (b : Before) (node : Node) (outside : Outside) (letter : Letter) (h : Stands b node outside) where
-  abbrev pub letter_begins : Making Core
-  letter_begins = begins core_ways (keys_before b) (core_of node) (FromMember letter)
+abbrev pub bytes_begin : Before → Node → ℕ → List ℕ → Making Core
+bytes_begin b node from bytes = begins core_ways (keys_before b) (core_of node) (FromMember from bytes)
+
+-- bytes that bring no vote message
+pub Makes-silent : (b : Before) (node : Node) (outside : Outside) (from : ℕ) (bytes : List ℕ) → letter_in from bytes ≡ None → Stands b node outside → Makes b (bytes_begin b node from bytes) act_of.Kept node outside
+Makes-silent b node outside from bytes is h =
+    let P : Option Letter → Type 0 = λ o. Makes b (record { state = core_hears o ((keys_before b).accepts []) (core_of node); facts = []; posts = []; signed = [] }) act_of.Kept node outside in
+    subst P (sym is) (begun b (core_of node) act_of.Kept node node outside h refl refl refl refl refl node.is_me)
+
+module _ (b : Before) (node : Node) (outside : Outside) (from : ℕ) (bytes : List ℕ) (letter : Letter) (is : letter_in from bytes ≡ Some letter) (h : Stands b node outside) where
+  came : core_comes (FromMember from bytes) ((keys_before b).accepts []) (core_of node) ≡ core_hears (Some letter) ((keys_before b).accepts []) (core_of node)
+  came = ap (λ o. core_hears o ((keys_before b).accepts []) (core_of node)) is
 
   -- the node itself is named
-  own_same : letter.from ≡ node.id → core_comes (FromMember letter) ((keys_before b).accepts []) (core_of node) ≡ core_of node
+  own_same : letter.from ≡ node.id → core_comes (FromMember from bytes) ((keys_before b).accepts []) (core_of node) ≡ core_of node
   own_same e =
       let t : (letter.from == node.view.me) ≡ true = eq-eqb letter.from node.view.me (e ∙ sym node.is_me) in
-      rw t
+      came ∙ rw t refl
 
-  pub Makes-own : letter.from ≡ node.id → Makes b letter_begins act_of.Kept node outside
+  pub Makes-own : letter.from ≡ node.id → Makes b (bytes_begin b node from bytes) act_of.Kept node outside
   Makes-own e =
       let P : Core → Type 0 = λ s. Makes b (record { state = s; facts = []; posts = []; signed = [] }) act_of.Kept node outside in
-      subst P (sym (own_same e)) (begun b (core_of node) act_of.Kept node node outside h refl refl refl refl node.is_me)
+      subst P (sym (own_same e)) (begun b (core_of node) act_of.Kept node node outside h refl refl refl refl refl node.is_me)
 
   other_core : Core
   other_core = record { place = node.place; view = kept_after (is_sealed outside.seat.seals) node.place node.view letter }
 
-  other_same : (letter.from ≡ node.id → ⊥) → core_comes (FromMember letter) ((keys_before b).accepts []) (core_of node) ≡ other_core
+  other_same : (letter.from ≡ node.id → ⊥) → core_comes (FromMember from bytes) ((keys_before b).accepts []) (core_of node) ≡ other_core
   unfolding other_core
   other_same e =
       let t : (letter.from == node.view.me) ≡ false = ne_eqb letter.from node.view.me (λ f. e (f ∙ node.is_me)) in
       let seals : b.seals ++ [] ≡ outside.seat.seals = append-nil b.seals ∙ sym (ap (λ (s : Seat). s.seals) h.seat) in
-      rw t (ap (λ (l : List Seal). record { place = node.place; view = kept_after (is_sealed l) node.place node.view letter }) seals)
+      came ∙ rw t (ap (λ (l : List Seal). record { place = node.place; view = kept_after (is_sealed l) node.place node.view letter }) seals)
 
-  pub Makes-other : (told : Act) (now : Node) → (letter.from ≡ node.id → ⊥) → now.id ≡ node.id → now.place ≡ node.place → now.pool.items ≡ node.pool.items → now.view ≡ after_act told (kept_after (is_sealed outside.seat.seals) node.place node.view letter) → Makes b letter_begins told now outside
+  pub Makes-other : (told : Act) (now : Node) → (letter.from ≡ node.id → ⊥) → now.id ≡ node.id → now.place ≡ node.place → now.pool.items ≡ node.pool.items → now.ledger.items ≡ node.ledger.items → now.view ≡ after_act told (kept_after (is_sealed outside.seat.seals) node.place node.view letter) → Makes b (bytes_begin b node from bytes) told now outside
   unfolding other_core
-  Makes-other told now e id place pool view =
+  Makes-other told now e id place pool ledger view =
       let P : Core → Type 0 = λ s. Makes b (record { state = s; facts = []; posts = []; signed = [] }) told now outside in
-      subst P (sym (other_same e)) (begun b other_core told node now outside h id place pool view (me-kept_after (is_sealed outside.seat.seals) node.place node.view letter ∙ node.is_me))
+      subst P (sym (other_same e)) (begun b other_core told node now outside h id place pool ledger view (me-kept_after (is_sealed outside.seat.seals) node.place node.view letter ∙ node.is_me))
 
-  pub IsDue-other : (told : Act) → (letter.from ≡ node.id → ⊥) → act_in told ≡ due (is_sealed outside.seat.seals) node.place (kept_after (is_sealed outside.seat.seals) node.place node.view letter) → IsDue b letter_begins told
+  pub IsDue-other : (told : Act) → (letter.from ≡ node.id → ⊥) → act_in told ≡ due (is_sealed outside.seat.seals) node.place (kept_after (is_sealed outside.seat.seals) node.place node.view letter) → IsDue b (bytes_begin b node from bytes) told
   unfolding other_core
   IsDue-other told e d =
       let P : Core → Type 0 = λ s. IsDue b (record { state = s; facts = []; posts = []; signed = [] }) told in
@@ -374,18 +395,49 @@ module _ (b : Before) (node : Node) (outside : Outside) (letter : Letter) (h : S
       let f : List Seal → Option Act = λ l. due (is_sealed l) node.place (kept_after (is_sealed outside.seat.seals) node.place node.view letter) in
       subst P (sym (other_same e)) (d ∙ ap f seals)
 
-  pub Makes-vote : (told : Act) (now : Node) → (letter.from ≡ node.id → ⊥) → now.id ≡ node.id → now.place ≡ node.place → now.pool.items ≡ node.pool.items → Votes (is_sealed outside.seat.seals) node.place node.view letter told now.view → Makes b letter_begins told now outside
-  Makes-vote told now e id place pool v =
+  pub Makes-vote : (told : Act) (now : Node) → (letter.from ≡ node.id → ⊥) → now.id ≡ node.id → now.place ≡ node.place → now.pool.items ≡ node.pool.items → now.ledger.items ≡ node.ledger.items → Votes (is_sealed outside.seat.seals) node.place node.view letter told now.view → Makes b (bytes_begin b node from bytes) told now outside
+  Makes-vote told now e id place pool ledger v =
       let accepts = is_sealed outside.seat.seals in
-      Makes-other told now e id place pool (v.after ∙ ap (λ a. after_act a (kept_after accepts node.place (at_place node.place node.view) letter)) (sym v.answer) ∙ ap (λ w. after_act told (kept_after accepts node.place w letter)) (at_place-at node.place node.view node.is_at))
+      Makes-other told now e id place pool ledger (v.after ∙ ap (λ a. after_act a (kept_after accepts node.place (at_place node.place node.view) letter)) (sym v.answer) ∙ ap (λ w. after_act told (kept_after accepts node.place w letter)) (at_place-at node.place node.view node.is_at))
 
-  pub IsDue-vote : (told : Act) (left : View) → (letter.from ≡ node.id → ⊥) → Votes (is_sealed outside.seat.seals) node.place node.view letter told left → IsDue b letter_begins told
+  pub IsDue-vote : (told : Act) (left : View) → (letter.from ≡ node.id → ⊥) → Votes (is_sealed outside.seat.seals) node.place node.view letter told left → IsDue b (bytes_begin b node from bytes) told
   IsDue-vote told left e v =
       let accepts = is_sealed outside.seat.seals in
       IsDue-other told e (ap act_in v.answer ∙ act_in-vote_answer accepts node.place (at_place node.place node.view) letter ∙ ap (λ w. due accepts node.place (kept_after accepts node.place w letter)) (at_place-at node.place node.view node.is_at))
 
-pub same_letter : (from : ℕ) (x y : Message) → x ≡ y → ◌≡◌ {A = Letter} (record { from = from; message = x }) (record { from = from; message = y })
-same_letter from x y e = ap (λ m. record { from = from; message = m }) e
+-- what a message that bytes spell brings
+
+pub letter_is : (from : ℕ) (bytes : List ℕ) (m : Message) → message_in bytes ≡ Some m → letter_in from bytes ≡ option_map (λ message. record { from = from; message = message }) (vote_in m)
+letter_is from bytes m is = ap (λ o. option_map (λ message. record { from = from; message = message }) (option_and_then vote_in o)) is
+
+heard_own : (b : Before) (node : Node) (outside : Outside) (from : ℕ) (bytes : List ℕ) (o : Option VoteMessage) → letter_in from bytes ≡ option_map (λ message. record { from = from; message = message }) o → from ≡ node.id → Stands b node outside
+    → Makes b (bytes_begin b node from bytes) act_of.Kept node outside
+heard_own b node outside from bytes None is own h = Makes-silent b node outside from bytes is h
+heard_own b node outside from bytes (Some message) is own h = Makes-own b node outside from bytes (record { from = from; message = message }) is h own
+
+-- a message in the node's own name brings nothing
+pub Makes-heard : (b : Before) (node : Node) (outside : Outside) (from : ℕ) (bytes : List ℕ) (m : Message) → message_in bytes ≡ Some m → from ≡ node.id → Stands b node outside → Makes b (bytes_begin b node from bytes) act_of.Kept node outside
+Makes-heard b node outside from bytes m is own h = heard_own b node outside from bytes (vote_in m) (letter_is from bytes m is) own h
+
+pub no_vote : (m : Message) → ((x : PrePrepare) → m ≡ wire.PrePrepare x → ⊥) → ((x : Prepare) → m ≡ wire.Prepare x → ⊥) → ((x : Commit) → m ≡ wire.Commit x → ⊥) → vote_in m ≡ None
+no_vote (wire.PrePrepare x) p q r = absurd (p x refl)
+no_vote (wire.Prepare x) p q r = absurd (q x refl)
+no_vote (wire.Commit x) p q r = absurd (r x refl)
+no_vote (wire.ViewChange x) p q r = refl
+no_vote (wire.ViewData x) p q r = refl
+no_vote (wire.NewView x) p q r = refl
+no_vote (wire.HeartBeat x) p q r = refl
+no_vote (wire.HeartBeatReply x) p q r = refl
+no_vote (wire.Forward x) p q r = refl
+no_vote (wire.BlockAsk x) p q r = refl
+no_vote (wire.BlockReply x) p q r = refl
+no_vote (wire.HeaderAsk x) p q r = refl
+no_vote (wire.HeaderReply x) p q r = refl
+no_vote (wire.RaftVote x) p q r = refl
+no_vote (wire.RaftVoteReply x) p q r = refl
+no_vote (wire.RaftAppend x) p q r = refl
+no_vote (wire.RaftAppendReply x) p q r = refl
+no_vote (wire.RaftBlock x) p q r = refl
 
 pub Votes-same : (accepts : Accepts) (place : Place) (before : View) (x y : Letter) (told : Act) (left : View) → x ≡ y → Votes accepts place before x told left → Votes accepts place before y told left
 Votes-same accepts place before x y told left e v = subst (λ l. Votes accepts place before l told left) e v
@@ -403,10 +455,10 @@ vote-at (Err fault) accepts place w left letter e f =
 
 -- TWO MESSAGES, one after the other
 
-pub preprepare-made : (place : Place) (w : View) (block : Block) (v : ℕ) (cert : Option Cert) → v ≡ w.view → cert ≡ carried_cert place → ◌≡◌ {A = Message} (message_of.PrePrepare (record { config = place.config.number; view = v; number = place.height; block = block; cert = cert })) (preprepare_message place w block)
+pub preprepare-made : (place : Place) (w : View) (block : Block) (v : ℕ) (cert : Option Cert) → v ≡ w.view → cert ≡ carried_cert place → ◌≡◌ {A = Message} (wire.PrePrepare (record { config = place.config.number; view = v; number = place.height; block = block; cert = cert })) (preprepare_message place w block)
 preprepare-made place w block v cert e f = rw (e, f)
 
-pub prepare-made : (place : Place) (w : View) (block : Block) (v : ℕ) (digest : List ℕ) → v ≡ w.view → digest ≡ block_hash block → ◌≡◌ {A = Message} (message_of.Prepare (record { config = place.config.number; view = v; number = place.height; digest = digest })) (prepare_message place w block)
+pub prepare-made : (place : Place) (w : View) (block : Block) (v : ℕ) (digest : List ℕ) → v ≡ w.view → digest ≡ block_hash block → ◌≡◌ {A = Message} (wire.Prepare (record { config = place.config.number; view = v; number = place.height; digest = digest })) (prepare_message place w block)
 prepare-made place w block v digest e f = rw (e, f)
 
 pub sent_two : (id : ℕ) (members : List ℕ) (x y p q : Message) (old mid new : List Entry) → x ≡ p → y ≡ q → mid ≡ old ++ sent_by id (to_all members id x) → new ≡ mid ++ sent_by id (to_all members id y) → new ≡ old ++ sent_by id (flat_map (to_all members id) (p ∷ q ∷ []))

@@ -8,7 +8,8 @@ use Rattle.node_model.specs.Cores.{Core}
 use Rattle.node_model.specs.Acts.{View}
 use Rattle.node_model.specs.Leading.{Place}
 use Rattle.node_model.specs.Steps.{Event, Making}
-use Rattle.safety_model.specs.Blocks.{Request}
+use Rattle.ord_types.specs.declared.values.Proof.{Proof}
+use Rattle.safety_model.specs.Blocks.{Block, Request}
 use Rattle.ord_types.specs.declared.lists.NoMemory.{NoMemory}
 use Rattle.script_play.specs.declared.ending.Ending.{Ending}
 use Rattle.script_play.specs.Turns.{Turned}
@@ -34,6 +35,7 @@ before_in w node =
       id = node.id;
       number = w.outside.number;
       pool = node.pool.items;
+      ledger = node.ledger.items;
       network = map entry_of w.outside.network.items;
       seals = w.outside.seat.seals;
       text = string_bytes w.outside.text;
@@ -49,6 +51,7 @@ stands_before w id place node outside at is seat =
     record {
       id = refl;
       pool = refl;
+      ledger = refl;
       network = ap (λ (o : Outside). map entry_of o.network.items) seat;
       seat = ap (λ (o : Outside). o.seat) seat ∙ ap (λ (i : ℕ). record { id = i; seals = w.outside.seat.seals }) (sym same);
       number = ap (λ (o : Outside). o.number) seat;
@@ -73,9 +76,9 @@ is_seated w s id place node at is read =
       first = ap (λ (x : World). x.first_waiting) is;
     }
 
-same_node : (i j : ℕ) (p q : Place) (v w : View) (xs ys : List Request) → i ≡ j → p ≡ q → v ≡ w → xs ≡ ys
-    → ◌≡◌ {A = worlds.Node Core} (record { id = i; state = record { place = p; view = v }; pool = xs }) (record { id = j; state = record { place = q; view = w }; pool = ys })
-same_node i j p q v w xs ys a b c d = cc
+same_node : (i j : ℕ) (p q : Place) (v w : View) (xs ys : List Request) (k l : List (Block × Proof)) → i ≡ j → p ≡ q → v ≡ w → xs ≡ ys → k ≡ l
+    → ◌≡◌ {A = worlds.Node Core} (record { id = i; state = record { place = p; view = v }; pool = xs; ledger = k }) (record { id = j; state = record { place = q; view = w }; pool = ys; ledger = l })
+same_node i j p q v w xs ys k l a b c d e = cc
 
 -- the world after a step
 pub world_stepped : (w : World) (id place : ℕ) (old new : Node) (outside : Outside) (m : Making Core) → HasPlace id w.nodes.items place → old ≡ get_or w.nodes.items place old
@@ -85,7 +88,7 @@ pub world_stepped : (w : World) (id place : ℕ) (old new : Node) (outside : Out
 world_stepped w id place old new outside m at is makes =
     let same : old.id ≡ id = ap (λ (n : Node). n.id) is ∙ id_at_place id w.nodes.items place old at in
     let nodes = with_node_at_place id w.nodes.items place old new at (makes.id ∙ same) in
-    let node : worlds.node_after (node_of old) m ≡ node_of new = same_node _ _ _ _ _ _ _ _ (sym makes.id) (sym makes.place) (sym makes.view) (sym makes.pool) in
+    let node : worlds.node_after (node_of old) m ≡ node_of new = same_node _ _ _ _ _ _ _ _ _ _ (sym makes.id) (sym makes.place) (sym makes.view) (sym makes.pool) (sym makes.ledger) in
     rw (← nodes, makes.network, makes.seat) (ap (λ (n : worlds.Node Core). record { nodes = worlds.with_node n (map node_of w.nodes.items); network = map entry_of w.outside.network.items ++ worlds.sent_by old.id m.posts; seals = w.outside.seat.seals ++ worlds.seals_of old.id m.signed; told = tt }) node)
 
 event_limited : (w : World) (id place : ℕ) (old new : Node) (outside : Outside) (event : Event)

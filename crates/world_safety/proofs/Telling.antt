@@ -252,7 +252,7 @@ module _ (number : ℕ) where
   said_tells : (o : Option PastWorld) (m : Meaning) → Tells told_in number o (worlds_said o number m) (said (turn_of past_setting) o number m)
   said_tells o Nothing = replies told_in o (said (turn_of past_setting) o number Nothing) it.Silent refl refl
   said_tells o (Means command) = turn_tells o command
-  said_tells o (Wrong (stop_of.Malformed place)) = replies told_in o (said (turn_of past_setting) o number (Wrong (stop_of.Malformed place))) it.Malformed refl (λ o. refl)
+  said_tells o (Wrong (stop_of.Malformed place)) = replies told_in o (said (turn_of past_setting) o number (Wrong (stop_of.Malformed place))) (it.Malformed place) refl (λ o. refl)
   said_tells o (Wrong stop_of.NotBuilt) = replies told_in o (said (turn_of past_setting) o number (Wrong stop_of.NotBuilt)) it.NotBuilt refl (λ o. refl)
 
   limit_tells : (o : Option PastWorld) (limit : ℕ) → Tells told_in number o [] (limit_turn number limit)

@@ -58,7 +58,8 @@ pub data Reply : Type 0 where
   Refused : Refusal → Reply
   -- the limit that was reached
   Limited : ℕ → Reply
-  Malformed : Reply
+  -- the place of the first byte that isn't in the grammar
+  Malformed : ℕ → Reply
   NotBuilt : Reply
 
 abbrev pub reply_text : ℕ → Reply → List ℕ
@@ -70,7 +71,7 @@ reply_text number (Came count) = deliver_text number count
 reply_text number (Flushed count) = flush_text number count
 reply_text number (Refused refusal) = refused_text number (reason refusal)
 reply_text number (Limited limit) = limit_text number limit
-reply_text number Malformed = malformed_text number
+reply_text number (Malformed place) = malformed_text number place
 reply_text number NotBuilt = not_built_text number
 
 -- the facts of each event of a line, and its reply

@@ -5,9 +5,9 @@ use Rattle.std.proofs.lemmas.Result.{IfOk-equal}
 use Rattle.world_model.specs.Texts.{pending_text}
 use Rattle.world_run.proofs.texts.put_pending.Goals as goal
 
-pending_is : (number node : ℕ) → decimal number ++ (codes " submit " ++ (decimal node ++ codes " known pending\n")) ≡ pending_text number node
+pending_is : (number : ℕ) (word : List ℕ) (node : ℕ) → decimal number ++ (codes " " ++ (word ++ (codes " " ++ (decimal node ++ codes " known pending\n")))) ≡ pending_text number word node
 unfolding pending_text
-pending_is number node = simp append_assoc
+pending_is number word node = simp append_assoc
 
 pub returns : goal.returns
-returns c = IfOk-equal _ _ _ _ c.write.ensures.bytes (ap (λ (bytes : List ℕ). string_bytes c.args.text.now ++ bytes) (pending_is c.args.number c.args.node))
+returns c = IfOk-equal _ _ _ _ c.write.ensures.bytes (ap (λ (bytes : List ℕ). string_bytes c.args.text.now ++ bytes) (pending_is c.args.number c.args.word.now c.args.node))

@@ -23,12 +23,12 @@ returns-clause-turned c =
     let w = c.args.self.now in
     let number = w.outside.number in
     let read = c.index_mut-entry.result.now in
-    let message = c.as_ref.result.now in
+    let bytes = c.as_slice.result.now in
     let before = string_bytes w.outside.text in
     let after = string_bytes c.take_at.new.self.outside.text in
     let next = world_of c.take_at.new.self in
     IfOk-weaker c.take_at.result
-    (λ (ending : Option Ending). (node : worlds.Node Core) → worlds.node_at read.to (map node_of w.nodes.items) ≡ Some node → Turned (event_turn core_setting number (with_arrived w c.args.at read) node (FromMember (record { from = read.from; message = message }))) before after next ending)
+    (λ (ending : Option Ending). (node : worlds.Node Core) → worlds.node_at read.to (map node_of w.nodes.items) ≡ Some node → Turned (event_turn core_setting number (with_arrived w c.args.at read) node (FromMember read.from bytes)) before after next ending)
     (λ (ending : Option Ending). (e : worlds.Entry) → slice_get (map entry_of w.outside.network.items) c.args.at ≡ Some e → Turned (delivery core_setting number c.args.at e (world_of w)) before after next ending)
-    (λ ending taken e has. delivered_to_node w number c.args.at c.in-Some.place read message e before after next ending (omega arith) c.index_mut-entry.ensures.value (sym c.in-Some.ensures) (c.as_ref.ensures ∙ c.in_ok-message.ensures.cases) taken has)
+    (λ ending taken e has. delivered_to_node w number c.args.at c.in-Some.place read bytes e before after next ending (omega arith) c.index_mut-entry.ensures.value (sym c.in-Some.ensures) (c.as_slice.ensures ∙ c.as_ref.ensures ∙ c.in_ok-bytes.ensures.cases) taken has)
     c.take_at.ensures.turned

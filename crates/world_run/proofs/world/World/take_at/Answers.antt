@@ -22,7 +22,7 @@ returns-clause-turned c =
     let old = c.index_mut.result.now in
     let seated = is_seated w c.give_seat.new.self c.args.id c.args.place old c.requires c.in_ok-give_seat.ensures c.index_mut.ensures.value in
     let made = c.in_ok-take.ensures (before_in w old) seated.stands in
-    let event = FromMember (record { from = c.args.from; message = c.args.message.now }) in
+    let event = FromMember c.args.from c.args.bytes.now in
     let here = node_at_read c.args.id w.nodes.items c.args.place old c.requires seated.read in
     let after = string_bytes c.within_limit.new.self.outside.text in
     let next = world_of c.within_limit.new.self in
