@@ -1,5 +1,6 @@
 -- The places that a view's calls take.
-use Rattle.std.specs.Prelude.{◌≡◌, ◌≤◌, ◌<◌, ◌^◌, ◌==◌, not, is_some, IfSome, [], ◌∷◌, length}
+use Rattle.std.specs.Prelude.{◌≡◌, ◌≤◌, ◌<◌, ◌^◌, ◌==◌, not, is_some, [], ◌∷◌, length}
+use Rattle.std.specs.Option.{ForSome}
 use Rattle.ord_types.specs.Lengths.{FitsCert}
 use Rattle.bft_wire.specs.declared.reason.Reason.TheVariants as reason
 use Rattle.node_model.specs.Acts.{View}
@@ -14,7 +15,7 @@ pub record IsPlace (place : Place) : Type 0 where
   pub behind : 1 ≤ place.height
   pub height : place.height < 2 ^ 62
   pub decided : place.last_meta.decided < 2 ^ 62
-  pub cert : IfSome place.last_cert FitsCert
+  pub cert : ForSome place.last_cert FitsCert
 
 -- a view stands under the place's configuration, at its height
 pub record StandsAt (place : Place) (w : View) : Type 0 where
