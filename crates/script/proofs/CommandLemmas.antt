@@ -15,10 +15,10 @@ use Rattle.script.specs.declared.command.Stop.TheVariants.{Malformed, NotBuilt}
 use Rattle.script.specs.declared.command.Meaning.{Meaning}
 use Rattle.script.specs.declared.command.Meaning.TheVariants.{Nothing, Means}
 use Rattle.script.specs.Words.{Word, words}
-use Rattle.script.specs.Fields.{digits_from, is_digit, number_of, not_zero, id_of, ticks_of, hex_of, ids_from, ids_of, given_ids_of, entry_of, in_order, range_of_parts, range_of, ranges_from, ranges_of}
+use Rattle.script.specs.Fields.{digits_from, is_digit, nibble, pair_of, onto, pairs_of, number_of, not_zero, id_of, ticks_of, hex_of, ids_from, ids_of, given_ids_of, entry_of, in_order, range_of_parts, range_of, ranges_from, ranges_of}
 use Rattle.script.specs.Reading.{◌>>=◌, field, field_or, fitted, no_more}
-use Rattle.script.specs.Commands.{IsId, AreIds, IsRange, AreRanges, IsWellFormed}
-use Rattle.script.specs.Grammar.{genesis_line, submit_line, tick_line, deliver_line, flush_line, line_of, command_of, judged, meaning, same_as}
+use Rattle.script.specs.Commands.{IsId, AreIds, AreBytes, IsRange, AreRanges, IsWellFormed}
+use Rattle.script.specs.Grammar.{genesis_line, submit_line, raw_line, tick_line, deliver_line, flush_line, show_line, line_of, command_of, judged, meaning, same_as}
 use Rattle.script.specs.Later.{is_later}
 
 picked : {A : Type 0} (b : Bool) (x : Option A) (y : A) → cond b x None ≡ Some y → (b ≡ true) × (x ≡ Some y)
@@ -60,6 +60,38 @@ id_fits : (text : List ℕ) (n : ℕ) → id_of text ≡ Some n → IsId n
 id_fits text n e =
     let found = not_zero_fits (number_of (2 ^ 32 - 1) text) n e in
     record { positive = found.1; below = number_below (2 ^ 32 - 1) text n found.0 }
+
+nibble_below : (b n : ℕ) → nibble b ≡ Some n → n < 16
+nibble_below b n e = go (is_digit b) (nat_le 97 b && nat_le b 102) (λ t. leb-true b 57 (both (nat_le 48 b) (nat_le b 57) t).1) (λ t. leb-true b 102 (both (nat_le 97 b) (nat_le b 102) t).1) e
+  where
+    go : (digit letter : Bool) → (digit ≡ true → b ≤ 57) → (letter ≡ true → b ≤ 102) → cond digit (Some (b - 48)) (cond letter (Some (b - 87)) None) ≡ Some n → n < 16
+    go true letter low high e = let same : b - 48 ≡ n = cc in omega (arith, low refl)
+    go false true low high e = let same : b - 87 ≡ n = cc in omega (arith, high refl)
+    go false false low high e = absurd (cc)
+
+pair_below : (high low : Option ℕ) (b : ℕ) → ((n : ℕ) → high ≡ Some n → n < 16) → ((n : ℕ) → low ≡ Some n → n < 16) → pair_of high low ≡ Some b → b < 256
+pair_below None low b h l e = absurd (cc)
+pair_below (Some high) None b h l e = absurd (cc)
+pair_below (Some high) (Some low) b h l e = let same : 16 * high + low ≡ b = cc in omega (arith, h high refl, l low refl)
+
+onto_bytes : (first : Option ℕ) (rest : Option (List ℕ)) (bytes : List ℕ) → ((b : ℕ) → first ≡ Some b → b < 256) → ((more : List ℕ) → rest ≡ Some more → AreBytes more) → onto first rest ≡ Some bytes → AreBytes bytes
+onto_bytes None rest bytes f r e = absurd (cc)
+onto_bytes (Some b) None bytes f r e = absurd (cc)
+onto_bytes (Some b) (Some more) bytes f r e = let same : b ∷ more ≡ bytes = cc in rw (← same) (f b refl, r more refl)
+
+pairs_fit : (text bytes : List ℕ) → pairs_of text ≡ Some bytes → AreBytes bytes
+pairs_fit [] bytes e = let same : [] ≡ bytes = cc in rw (← same) tt
+pairs_fit (a ∷ []) bytes e = absurd (cc)
+pairs_fit (a ∷ b ∷ more) bytes e =
+    onto_bytes (pair_of (nibble a) (nibble b)) (pairs_of more) bytes (λ n. pair_below (nibble a) (nibble b) n (nibble_below a) (nibble_below b)) (pairs_fit more) e
+
+hex_fits : (text bytes : List ℕ) → hex_of text ≡ Some bytes → AreBytes bytes
+unfolding hex_of
+hex_fits text bytes e = go (bytes_eq text (codes "-")) e
+  where
+    go : (dash : Bool) → cond dash (Some []) (cond (length text == 0) None (pairs_of text)) ≡ Some bytes → AreBytes bytes
+    go true e = let same : [] ≡ bytes = cc in rw (← same) tt
+    go false e = pairs_fit text bytes (passed (length text == 0) (pairs_of text) bytes e).1
 
 -- ids that were read, above the last one
 record Rise (last room : ℕ) (parts : List (List ℕ)) (ids : List ℕ) : Type 0 where
@@ -196,7 +228,16 @@ submit_fits past ws =
       node_id = field_keeps id_of IsId id_fits past ws node i;
       client_below = field_keeps (number_of (2 ^ 32 - 1)) (λ n. n ≤ 2 ^ 32 - 1) (number_below (2 ^ 32 - 1)) past node.1 client c;
       serial_below = field_keeps (number_of (2 ^ 64 - 1)) (λ n. n ≤ 2 ^ 64 - 1) (number_below (2 ^ 64 - 1)) past client.1 serial s;
+      are_bytes = field_keeps hex_of AreBytes hex_fits past serial.1 payload p;
     })))))
+
+raw_fits : (past : ℕ) (ws : List Word) → IfOk (raw_line past ws) IsWellFormed
+unfolding raw_line
+raw_fits past ws =
+    bind_keeps (field id_of past ws) _ IsWellFormed (λ node i.
+    bind_keeps (field hex_of past node.1) _ IsWellFormed (λ bytes b.
+    bind_keeps (no_more bytes.1) _ IsWellFormed (λ none n.
+    record { node_id = field_keeps id_of IsId id_fits past ws node i; are_bytes = field_keeps hex_of AreBytes hex_fits past node.1 bytes b })))
 
 tick_fits : (past : ℕ) (ws : List Word) → IfOk (tick_line past ws) IsWellFormed
 unfolding tick_line
@@ -221,6 +262,17 @@ flush_fits ws =
     bind_keeps (no_more only.1) _ IsWellFormed (λ none n.
     field_or_keeps None given_ids_of (λ only. IfSome only AreIds) tt given_ids_fit ws only o))
 
+show_fits : (past : ℕ) (ws : List Word) → IfOk (show_line past ws) IsWellFormed
+unfolding show_line
+show_fits past ws =
+    bind_keeps (field id_of past ws) _ IsWellFormed (λ node i.
+    bind_keeps (field entry_of past node.1) _ IsWellFormed (λ number m.
+    bind_keeps (no_more number.1) _ IsWellFormed (λ none n.
+    record {
+      node_id = field_keeps id_of IsId id_fits past ws node i;
+      number_below = field_keeps entry_of (λ n. n ≤ 2 ^ 62 - 1) (number_below (2 ^ 62 - 1)) past node.1 number m;
+    })))
+
 either : (b : Bool) (x y : Result Command Stop) → IfOk x IsWellFormed → IfOk y IsWellFormed → IfOk (cond b x y) IsWellFormed
 either true x y f g = f
 either false x y f g = g
@@ -229,15 +281,19 @@ line_fits : (past : ℕ) (word : Word) (more : List Word) → IfOk (line_of past
 unfolding line_of
 line_fits past word more =
     let other : Result Command Stop = Err (Malformed word.place) in
-    let flush = cond (bytes_eq word.text (codes "flush")) (flush_line more) other in
+    let show = cond (bytes_eq word.text (codes "show")) (show_line past more) other in
+    let flush = cond (bytes_eq word.text (codes "flush")) (flush_line more) show in
     let deliver = cond (bytes_eq word.text (codes "deliver")) (deliver_line past more) flush in
     let tick = cond (bytes_eq word.text (codes "tick")) (tick_line past more) deliver in
-    let submit = cond (bytes_eq word.text (codes "submit")) (submit_line past more) tick in
+    let raw = cond (bytes_eq word.text (codes "raw")) (raw_line past more) tick in
+    let submit = cond (bytes_eq word.text (codes "submit")) (submit_line past more) raw in
     either (bytes_eq word.text (codes "genesis")) (genesis_line past more) submit (genesis_fits past more)
-    (either (bytes_eq word.text (codes "submit")) (submit_line past more) tick (submit_fits past more)
+    (either (bytes_eq word.text (codes "submit")) (submit_line past more) raw (submit_fits past more)
+    (either (bytes_eq word.text (codes "raw")) (raw_line past more) tick (raw_fits past more)
     (either (bytes_eq word.text (codes "tick")) (tick_line past more) deliver (tick_fits past more)
     (either (bytes_eq word.text (codes "deliver")) (deliver_line past more) flush (deliver_fits past more)
-    (either (bytes_eq word.text (codes "flush")) (flush_line more) other (flush_fits more) tt))))
+    (either (bytes_eq word.text (codes "flush")) (flush_line more) show (flush_fits more)
+    (either (bytes_eq word.text (codes "show")) (show_line past more) other (show_fits past more) tt))))))
 
 command_fits : (past : ℕ) (ws : List Word) → IfOk (command_of past ws) IsWellFormed
 command_fits past [] = tt

@@ -1,8 +1,9 @@
 -- What the grammar lets into a command.
-use Rattle.std.specs.Prelude.{ℕ, ◌≤◌, ◌^◌, ◌-◌, List, length, All, IfSome}
+use Rattle.std.specs.Prelude.{ℕ, ◌≤◌, ◌<◌, ◌^◌, ◌-◌, List, length, All, IfSome}
+use Rattle.std.specs.List.{AllByRecursion}
 use Rattle.std.specs.List.Sorted.{IsStrictlyIncreasing}
 use Rattle.script.specs.declared.command.Command.{Command}
-use Rattle.script.specs.declared.command.Command.TheVariants.{Genesis, Submit, Tick, Deliver, Flush}
+use Rattle.script.specs.declared.command.Command.TheVariants.{Genesis, Submit, Raw, Tick, Deliver, Flush, Show}
 use Rattle.script.specs.declared.command.Range.{Range}
 
 pub record IsId (id : ℕ) : Type 0 where
@@ -16,10 +17,19 @@ pub record AreIds (ids : List ℕ) : Type 0 where
   pub ascending : IsStrictlyIncreasing ids
   pub each : All IsId ids
 
-pub record IsSubmit (node client serial : ℕ) : Type 0 where
+-- values of single bytes
+abbrev pub AreBytes : List ℕ → Type 0
+AreBytes bytes = AllByRecursion (λ b. b < 256) bytes
+
+pub record IsSubmit (node client serial : ℕ) (payload : List ℕ) : Type 0 where
   pub node_id : IsId node
   pub client_below : client ≤ 2 ^ 32 - 1
   pub serial_below : serial ≤ 2 ^ 64 - 1
+  pub are_bytes : AreBytes payload
+
+pub record IsRaw (node : ℕ) (bytes : List ℕ) : Type 0 where
+  pub node_id : IsId node
+  pub are_bytes : AreBytes bytes
 
 pub record IsTick (node count : ℕ) : Type 0 where
   pub node_id : IsId node
@@ -34,10 +44,16 @@ pub record AreRanges (ranges : List Range) : Type 0 where
   pub some : 1 ≤ length ranges
   pub each : All IsRange ranges
 
+pub record IsShow (node number : ℕ) : Type 0 where
+  pub node_id : IsId node
+  pub number_below : number ≤ 2 ^ 62 - 1
+
 -- a command that a line may mean
 abbrev pub IsWellFormed : Command → Type 0
 IsWellFormed (Genesis members) = AreIds members
-IsWellFormed (Submit node client serial payload) = IsSubmit node client serial
+IsWellFormed (Submit node client serial payload) = IsSubmit node client serial payload
+IsWellFormed (Raw node bytes) = IsRaw node bytes
 IsWellFormed (Tick node count) = IsTick node count
 IsWellFormed (Deliver ranges) = AreRanges ranges
 IsWellFormed (Flush only) = IfSome only AreIds
+IsWellFormed (Show node number) = IsShow node number

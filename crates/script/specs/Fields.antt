@@ -75,7 +75,7 @@ ids_of text = ids_from 0 31 (slice_split (λ b. b == 44) text)
 abbrev pub given_ids_of : List ℕ → Option (Option (List ℕ))
 given_ids_of text = option_map (λ ids. Some ids) (ids_of text)
 
--- the number of an entry: below 2^62
+-- the number of an entry or a block: below 2^62
 abbrev pub entry_of : List ℕ → Option ℕ
 entry_of text = number_of (2 ^ 62 - 1) text
 

@@ -2,13 +2,13 @@
 use Rattle.std.specs.Prelude.{ℕ, ◌-◌, ◌+◌, ◌^◌, ◌==◌, List, [], ◌∷◌, length, if◌then◌else◌, Result, Ok, Err, codes, Option, Some, None}
 use Rattle.std.specs.Str.{bytes_eq}
 use Rattle.script.specs.declared.command.Command.{Command}
-use Rattle.script.specs.declared.command.Command.TheVariants.{Genesis, Submit, Tick, Deliver, Flush}
+use Rattle.script.specs.declared.command.Command.TheVariants.{Genesis, Submit, Raw, Tick, Deliver, Flush, Show}
 use Rattle.script.specs.declared.command.Stop.{Stop}
 use Rattle.script.specs.declared.command.Stop.TheVariants.{Malformed, NotBuilt}
 use Rattle.script.specs.declared.command.Meaning.{Meaning}
 use Rattle.script.specs.declared.command.Meaning.TheVariants.{Nothing, Means, Wrong}
 use Rattle.script.specs.Words.{Word, words}
-use Rattle.script.specs.Fields.{number_of, id_of, ticks_of, hex_of, ids_of, given_ids_of, ranges_of}
+use Rattle.script.specs.Fields.{number_of, id_of, ticks_of, hex_of, ids_of, given_ids_of, ranges_of, entry_of}
 use Rattle.script.specs.Reading.{◌>>=◌, field, field_or, no_more}
 use Rattle.script.specs.Later.{is_later}
 
@@ -35,6 +35,14 @@ submit_line past w = do
   none ← no_more payload.1
   Ok (Submit node.0 client.0 serial.0 payload.0)
 
+-- `raw NODE HEX`
+unfoldable pub raw_line : ℕ → List Word → Result Command Stop
+raw_line past w = do
+  node ← field id_of past w
+  bytes ← field hex_of past node.1
+  none ← no_more bytes.1
+  Ok (Raw node.0 bytes.0)
+
 -- `tick NODE [N]`, once where there is no N
 unfoldable pub tick_line : ℕ → List Word → Result Command Stop
 tick_line past w = do
@@ -57,15 +65,25 @@ flush_line w = do
   none ← no_more only.1
   Ok (Flush only.0)
 
+-- `show NODE NUMBER`
+unfoldable pub show_line : ℕ → List Word → Result Command Stop
+show_line past w = do
+  node ← field id_of past w
+  number ← field entry_of past node.1
+  none ← no_more number.1
+  Ok (Show node.0 number.0)
+
 -- a command by its first word and those behind it
 unfoldable pub line_of : ℕ → Word → List Word → Result Command Stop
 line_of past word more =
     if bytes_eq word.text (codes "genesis") then genesis_line past more
     else (if bytes_eq word.text (codes "submit") then submit_line past more
+    else (if bytes_eq word.text (codes "raw") then raw_line past more
     else (if bytes_eq word.text (codes "tick") then tick_line past more
     else (if bytes_eq word.text (codes "deliver") then deliver_line past more
     else (if bytes_eq word.text (codes "flush") then flush_line more
-    else Err (Malformed word.place)))))
+    else (if bytes_eq word.text (codes "show") then show_line past more
+    else Err (Malformed word.place)))))))
 
 -- a command by its words; whether they belong to a later part is looked at first
 abbrev pub command_of : ℕ → List Word → Result Command Stop

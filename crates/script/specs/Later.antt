@@ -1,5 +1,5 @@
 -- The lines of later parts.
-use Rattle.std.specs.Prelude.{ℕ, ◌||◌, ◌&&◌, not, Bool, true, List, [], ◌∷◌, length, nat_eq, nat_lt, codes}
+use Rattle.std.specs.Prelude.{ℕ, ◌||◌, ◌&&◌, not, Bool, true, List, [], ◌∷◌, nat_eq, codes}
 use Rattle.std.specs.List.{list_any, starts_with}
 use Rattle.std.specs.Str.{bytes_eq}
 use Rattle.script.specs.Words.{Word}
@@ -7,9 +7,9 @@ use Rattle.script.specs.Words.{Word}
 -- a first word of a later part
 unfoldable pub is_later_word : List ℕ → Bool
 is_later_word text =
-    bytes_eq text (codes "raw") || bytes_eq text (codes "byz-propose") || bytes_eq text (codes "byz-vote") || bytes_eq text (codes "byz-change")
-    || bytes_eq text (codes "byz-report") || bytes_eq text (codes "lie") || bytes_eq text (codes "seal") || bytes_eq text (codes "show")
-    || bytes_eq text (codes "stop") || bytes_eq text (codes "stop-at") || bytes_eq text (codes "start") || bytes_eq text (codes "config")
+    bytes_eq text (codes "byz-propose") || bytes_eq text (codes "byz-vote") || bytes_eq text (codes "byz-change")
+    || bytes_eq text (codes "byz-report") || bytes_eq text (codes "lie") || bytes_eq text (codes "seal") || bytes_eq text (codes "stop")
+    || bytes_eq text (codes "stop-at") || bytes_eq text (codes "start") || bytes_eq text (codes "config")
     || bytes_eq text (codes "join")
 
 -- a word begins like an option of `genesis` of a later part

@@ -24,6 +24,11 @@ pub enum Command {
         serial: u64,
         payload: Bytes,
     },
+    /// Bytes for the pool of a node, as they are.
+    Raw {
+        node: u32,
+        bytes: Bytes,
+    },
     /// So many ticks of a node.
     Tick {
         node: u32,
@@ -36,6 +41,11 @@ pub enum Command {
     /// All entries that are not delivered, or those between these ids alone.
     Flush {
         only: Option<List<u32>>,
+    },
+    /// A block of the ledger of a node.
+    Show {
+        node: u32,
+        number: u64,
     },
 }
 

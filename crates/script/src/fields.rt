@@ -139,9 +139,10 @@ pub fn ids(alloc: Global, text: &[u8]) -> Result<Option<List<u32>>, NoMemory>
     Ok(Some(ids))
 }
 
-/// The number of an entry: below 2^62.
-fn entry(text: &[u8]) -> Option<u64>
-    ensures { result ≡ entry_of text.now }
+/// The number of an entry or a block: below 2^62.
+pub fn entry(text: &[u8]) -> Option<u64>
+    ensures value { result ≡ entry_of text.now }
+    ensures below { IfSome result (λ n. n ≤ 2 ^ 62 - 1) }
 {
     number(text, (1 << 62) - 1)
 }

@@ -11,14 +11,12 @@ use crate::words::Words;
 fn is_later_word(word: &[u8]) -> bool
     ensures { result ≡ is_later_word word.now }
 {
-    word == b"raw".as_slice()
-        || word == b"byz-propose".as_slice()
+    word == b"byz-propose".as_slice()
         || word == b"byz-vote".as_slice()
         || word == b"byz-change".as_slice()
         || word == b"byz-report".as_slice()
         || word == b"lie".as_slice()
         || word == b"seal".as_slice()
-        || word == b"show".as_slice()
         || word == b"stop".as_slice()
         || word == b"stop-at".as_slice()
         || word == b"start".as_slice()

@@ -1,7 +1,7 @@
 ghost use Rattle.std.specs.Prelude.{◌≡◌, ◌+◌, length, IfOk};
 ghost use Rattle.script.specs.Words.{Word, words, words_left};
 ghost use Rattle.script.specs.Reading.{Gives, Reads};
-ghost use Rattle.script.specs.Grammar.{genesis_line, submit_line, tick_line, deliver_line, flush_line, line_of, command_of, meaning};
+ghost use Rattle.script.specs.Grammar.{genesis_line, submit_line, raw_line, tick_line, deliver_line, flush_line, show_line, line_of, command_of, meaning};
 
 use crate::command::{Command, Halt, Meaning, Stop, malformed};
 use crate::later::is_later;
@@ -24,6 +24,16 @@ fn submit_line(alloc: Global, words: &mut Words<'_>) -> Result<Command, Halt>
         serial,
         payload,
     })
+}
+
+#[tactic(auto, unfolding(crate::specs::Grammar::raw_line))]
+fn raw_line(alloc: Global, words: &mut Words<'_>) -> Result<Command, Halt>
+    ensures { Gives (λ command. command) result (raw_line (length words.old.line.now + 1) (words_left words.old.line.now words.old.from)) }
+{
+    let node = words.id()?;
+    let bytes = words.hex(alloc)?;
+    words.end()?;
+    Ok(Command::Raw { node, bytes })
 }
 
 #[tactic(auto, unfolding(crate::specs::Grammar::tick_line))]
@@ -65,6 +75,16 @@ fn flush_line(alloc: Global, words: &mut Words<'_>) -> Result<Command, Halt>
     Ok(Command::Flush { only })
 }
 
+#[tactic(auto, unfolding(crate::specs::Grammar::show_line))]
+fn show_line(words: &mut Words<'_>) -> Result<Command, Halt>
+    ensures { Gives (λ command. command) result (show_line (length words.old.line.now + 1) (words_left words.old.line.now words.old.from)) }
+{
+    let node = words.id()?;
+    let number = words.entry()?;
+    words.end()?;
+    Ok(Command::Show { node, number })
+}
+
 /// What a line asks for, by its first word and those behind it.
 #[tactic(auto, unfolding(crate::specs::Grammar::line_of))]
 fn line_of(alloc: Global, place: usize, word: &[u8], words: &mut Words<'_>) -> Result<Command, Halt>
@@ -76,6 +96,9 @@ fn line_of(alloc: Global, place: usize, word: &[u8], words: &mut Words<'_>) -> R
     if word == b"submit".as_slice() {
         return submit_line(alloc, words);
     }
+    if word == b"raw".as_slice() {
+        return raw_line(alloc, words);
+    }
     if word == b"tick".as_slice() {
         return tick_line(words);
     }
@@ -84,6 +107,9 @@ fn line_of(alloc: Global, place: usize, word: &[u8], words: &mut Words<'_>) -> R
     }
     if word == b"flush".as_slice() {
         return flush_line(alloc, words);
+    }
+    if word == b"show".as_slice() {
+        return show_line(words);
     }
     Err(malformed(place))
 }
@@ -158,6 +184,19 @@ mod tests {
             }
             _ => return Err(Fail::from("submit")),
         }
+        match meaning(rt.alloc(), b"raw 7 0100ff")? {
+            Meaning::Means(Command::Raw { node, bytes }) => {
+                assert_eq!(rt; node, 7);
+                assert_eq!(rt; bytes.as_slice(), [1, 0, 255].as_slice());
+            }
+            _ => return Err(Fail::from("raw")),
+        }
+        match meaning(rt.alloc(), b"show 7 4611686018427387903")? {
+            Meaning::Means(Command::Show { node, number }) => {
+                assert_eq!(rt; (node, number), (7, 4611686018427387903));
+            }
+            _ => return Err(Fail::from("show")),
+        }
         match meaning(rt.alloc(), b"tick 7")? {
             Meaning::Means(Command::Tick { node, count }) => {
                 assert_eq!(rt; (node, count), (7, 1));
@@ -202,6 +241,16 @@ mod tests {
             (b"submit 1  2 3 aa", 10),
             (b"submit 1 2 18446744073709551616 aa", 12),
             (b"submit 1 2 3 - -", 16),
+            (b"raw", 4),
+            (b"raw 0 aa", 5),
+            (b"raw 1", 6),
+            (b"raw 1 a", 7),
+            (b"raw 1 - -", 9),
+            (b"show 1", 7),
+            (b"show 1 ", 8),
+            (b"show 1 01", 8),
+            (b"show 1 4611686018427387904", 8),
+            (b"show 1 2 3", 10),
             (b"genesis batch=1", 9),
             (b"genesis bft 2,1 batch=1", 13),
             (b"genesis bft 0,1 batch=1", 13),
@@ -219,7 +268,7 @@ mod tests {
     #[test]
     fn lines_not_built(rt: HostRuntime) -> Result<(), Fail> {
         for line in [
-            b"raw".as_slice(),
+            b"seal".as_slice(),
             b"stop-at 0 x",
             b"genesis",
             b"genesis bft 1",

@@ -1,12 +1,12 @@
 ghost use Rattle.std.specs.Prelude.{◌≡◌, ◌≤◌, ◌+◌, ◌^◌, ◌-◌, ◌∷◌, [], IsNone, IfNone, IfSome, IfOk, IfErr, None, length, nat_lt};
 ghost use Rattle.script.specs.declared.command.Stop.TheVariants.{Malformed};
 ghost use Rattle.script.specs.Words.{words_left};
-ghost use Rattle.script.specs.Fields.{number_of, id_of, ticks_of, hex_of, ids_of, given_ids_of, ranges_of};
+ghost use Rattle.script.specs.Fields.{number_of, id_of, ticks_of, hex_of, ids_of, given_ids_of, entry_of, ranges_of};
 ghost use Rattle.script.specs.Grammar.{same_as};
 ghost use Rattle.script.specs.Reading.{Reads, Gives, field, field_or, no_more};
 
 use crate::command::{Halt, Range, malformed};
-use crate::fields::{hex, id, ids, number, ranges, ticks};
+use crate::fields::{entry, hex, id, ids, number, ranges, ticks};
 use memchr::memchr;
 use ord_types::{Bytes, List};
 use std::alloc::Global;
@@ -131,6 +131,18 @@ impl<'a> Words<'a> {
     {
         let (place, word) = self.word()?;
         match number(word, u64::MAX) {
+            Some(n) => Ok(n),
+            None => Err(malformed(place)),
+        }
+    }
+
+    /// The number of an entry or a block.
+    pub fn entry(&mut self) -> Result<u64, Halt>
+        ensures line { self.new.line.now ≡ self.old.line.now }
+        ensures reads { Reads result (words_left self.new.line.now self.new.from) (field entry_of (length self.old.line.now + 1) (words_left self.old.line.now self.old.from)) }
+    {
+        let (place, word) = self.word()?;
+        match entry(word) {
             Some(n) => Ok(n),
             None => Err(malformed(place)),
         }

@@ -28,7 +28,7 @@ limit_turn number limit = record { printed = limit_text number limit; next = Err
 abbrev pub said : {W : Type 0} → (W → ℕ → Command → Turn W) → W → ℕ → Meaning → Turn W
 said turn world number Nothing = record { printed = []; next = Ok world }
 said turn world number (Means command) = turn world number command
-said turn world number (Wrong (Malformed place)) = record { printed = malformed_text number; next = Err (MalformedLine number place) }
+said turn world number (Wrong (Malformed place)) = record { printed = malformed_text number place; next = Err (MalformedLine number place) }
 said turn world number (Wrong NotBuilt) = record { printed = not_built_text number; next = Err (LaterLine number) }
 
 -- the limits come first

@@ -1,8 +1,9 @@
 -- The lines that end a run.
 use Rattle.std.specs.Prelude.{ℕ, List, ◌++◌, codes, decimal}
 
-abbrev pub malformed_text : ℕ → List ℕ
-malformed_text number = decimal number ++ codes " malformed\n"
+-- the place counts from 1
+abbrev pub malformed_text : ℕ → ℕ → List ℕ
+malformed_text number place = decimal number ++ codes " malformed at " ++ decimal place ++ codes "\n"
 
 abbrev pub not_built_text : ℕ → List ℕ
 not_built_text number = decimal number ++ codes " not built\n"

@@ -37,7 +37,7 @@ fn say<M: Machine>(
         Meaning::Nothing => Ok(None),
         Meaning::Means(command) => Ok(machine.turn(number, command, text)?),
         Meaning::Wrong(Stop::Malformed(place)) => {
-            put_malformed(text, number)?;
+            put_malformed(text, number, place)?;
             Ok(Some(Ending::MalformedLine(number, place)))
         }
         Meaning::Wrong(Stop::NotBuilt) => {

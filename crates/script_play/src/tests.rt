@@ -73,7 +73,7 @@ fn scripts(rt: HostRuntime) -> Result<(), Fail> {
         ),
         (
             b"tick 1\ntick x\nflush\n",
-            b"1 done\n2 malformed\n",
+            b"1 done\n2 malformed at 6\n",
             Ending::MalformedLine(2, 6),
             3,
         ),

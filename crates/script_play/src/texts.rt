@@ -3,10 +3,11 @@ ghost use Rattle.script_play.specs.Texts.{malformed_text, not_built_text, limit_
 
 use std::alloc::AllocError;
 
-pub fn put_malformed(text: &mut String, number: u64) -> Result<(), AllocError>
-    ensures { OnOk result (string_bytes text.new ≡ string_bytes text.old ++ malformed_text number) }
+/// The byte at this place of the line, counted from 1, isn't in the grammar.
+pub fn put_malformed(text: &mut String, number: u64, place: usize) -> Result<(), AllocError>
+    ensures { OnOk result (string_bytes text.new ≡ string_bytes text.old ++ malformed_text number place) }
 {
-    write!(text, "{number} malformed\n")
+    write!(text, "{number} malformed at {place}\n")
 }
 
 pub fn put_not_built(text: &mut String, number: u64) -> Result<(), AllocError>

@@ -12,10 +12,11 @@ use Rattle.safety_model.proofs.FactTests.{bytes_same}
 use Rattle.signer_edge.specs.Accepts.{Accepts}
 use Rattle.signer_edge.specs.Certificates.{is_good_cert, signers_of}
 use Rattle.signer_edge.specs.Statements.{commit_text}
-use Rattle.bft_wire.specs.declared.message.Message.TheVariants as message_of
+use Rattle.node_model.specs.declared.letter.VoteMessage.TheVariants as message_of
 use Rattle.node_model.specs.declared.letter.Letter.{Letter}
 use Rattle.node_model.specs.Answers.{is_signed}
-use Rattle.node_model.specs.Letters.{Message, is_commit_for}
+use Rattle.node_model.specs.declared.letter.VoteMessage.{VoteMessage}
+use Rattle.node_model.specs.Letters.{is_commit_for}
 use Rattle.node_model.specs.Leading.{Place}
 use Rattle.node_model.specs.Acts.{View, certificate, commits, delivery_due, first_of, kept_sig, sig_in}
 use Rattle.node_model.specs.Keeping.{is_of_view}
@@ -35,7 +36,7 @@ record IsMembers (accepts : Accepts) (j : ℕ) (statement : List ℕ) (sig : Sig
   signer : sig.signer ≡ j
   accepted : accepts statement sig ≡ true
 
-members_one : (accepts : Accepts) (j e v s : ℕ) (d : List ℕ) (sig : Sig) (from : ℕ) (m : Message) → ((from == j) && is_commit_for s d m) ≡ true → sig_in m ≡ Some sig
+members_one : (accepts : Accepts) (j e v s : ℕ) (d : List ℕ) (sig : Sig) (from : ℕ) (m : VoteMessage) → ((from == j) && is_commit_for s d m) ≡ true → sig_in m ≡ Some sig
     → IsKeptSigned accepts e v s (record { from = from; message = m }) → IsMembers accepts j (commit_text e v s d) sig
 members_one accepts j e v s d sig from (message_of.PrePrepare m) is at ok = absurd (let p = (and_parts (from == j) false is).1 in cc)
 members_one accepts j e v s d sig from (message_of.Prepare m) is at ok = absurd (let p = (and_parts (from == j) false is).1 in cc)

@@ -1,22 +1,26 @@
 -- A delivery that is due is allowed.
-use Rattle.std.proofs.Common.{◌≡◌, ℕ, ◌+◌, ◌≤◌, Bool, true, false, ◌||◌, ◌&&◌, suc, List, [], ◌∷◌, map, length, cond, refl, sym, subst, ap, ◌∙◌, inl, inr, Option, Some, None, arith}
-use Rattle.std.specs.Prelude.{◌==◌, nat_le, filter_map}
+use Rattle.std.proofs.Common.{◌≡◌, ℕ, ◌+◌, ◌^◌, ◌≤◌, Bool, true, false, ◌||◌, ◌&&◌, suc, List, [], ◌∷◌, map, length, cond, refl, sym, subst, ap, ◌∙◌, inl, inr, Option, Some, None, arith}
+use Rattle.std.specs.Prelude.{◌==◌, nat_le, nat_lt, filter_map}
 use Rattle.std.specs.List.{AllByRecursion, list_all, cons_option}
 use Rattle.std.specs.Str.{bytes_eq}
-use Rattle.std.proofs.lemmas.Bool.{or_left, or_right, or_cases, and_parts, and_from, eqb-true, eq-eqb, leb-true, le-leb}
-use Rattle.ord_types.specs.Hashes.{block_hash}
+use Rattle.std.proofs.lemmas.Bool.{or_left, or_right, or_cases, and_parts, and_from, eqb-true, eq-eqb, leb-true, ltb-true, le-leb}
+use Rattle.ord_types.specs.Grammar.{HasIdsSpelling, HasSigSpelling, IsNumber}
+use Rattle.ord_types.specs.Hashes.{block_hash, content_hash}
 use Rattle.ord_types.specs.Members.{how_many, how_many_in, is_in, is_raft}
-use Rattle.safety_model.specs.Blocks.{Block, Config, hashes_fit, is_lawful, is_next_at}
+use Rattle.safety_model.specs.Blocks.{Block, Config, Request, content_fits, has_number, hashes_fit, have_room, is_lawful, is_next_at, meta_fits}
 use Rattle.safety_model.specs.Facts.{Cert, History, Sig, has, is_prepared, signers_of}
 use Rattle.safety_model.specs.State.{Setup, height, tip, config_of}
 use Rattle.safety_model.specs.Rules.{is_proof, quorum_of}
 use Rattle.safety_model.proofs.FactTests.{bytes_same}
-use Rattle.bft_wire.specs.declared.message.Message.TheVariants as message_of
+use Rattle.node_model.specs.declared.letter.VoteMessage.TheVariants as message_of
 use Rattle.node_model.specs.declared.letter.Letter.{Letter}
-use Rattle.node_model.specs.Letters.{Message, is_commit_for}
+use Rattle.node_model.specs.declared.letter.VoteMessage.{VoteMessage}
+use Rattle.node_model.specs.Letters.{is_commit_for}
 use Rattle.node_model.specs.Leading.{Place}
 use Rattle.node_model.specs.Checks.{is_next_block}
 use Rattle.node_model.specs.Acts.{View, certificate, commits, delivery_due, delivery_if, first_of, kept_sig, sig_in}
+use Rattle.world_safety.proofs.Fits.{CertFits}
+use Rattle.world_safety.proofs.Ids.{IsSigOf, cert_fits}
 use Rattle.world_safety.proofs.Standing.{DeliveriesAreAllowed, IsKeptWell, Stands}
 
 -- the members' signatures, one after the other
@@ -57,12 +61,13 @@ as_many q f (x ∷ xs) each = step (as_many q f xs (λ m is sig fm. each m (or_r
         let one : P true = omega (arith, rest) in
         subst P yes one
 
--- what stands behind a member's signature: it names the member, and a correct member prepared the digest
+-- what stands behind a member's signature: it names the member, has a spelling, and a correct member prepared the digest
 record Behind (su : Setup) (h : History) (j e v s : ℕ) (d : List ℕ) (sig : Sig) : Type 0 where
   signer : sig.signer ≡ j
+  spelled : HasSigSpelling sig
   ground : (is_in j su.byzantine || has (is_prepared j e v s d) h) ≡ true
 
-behind_one : (su : Setup) (h : History) (j e v s : ℕ) (d : List ℕ) (sig : Sig) (from : ℕ) (m : Message) → ((from == j) && is_commit_for s d m) ≡ true → sig_in m ≡ Some sig
+behind_one : (su : Setup) (h : History) (j e v s : ℕ) (d : List ℕ) (sig : Sig) (from : ℕ) (m : VoteMessage) → ((from == j) && is_commit_for s d m) ≡ true → sig_in m ≡ Some sig
     → IsKeptWell su h e v s (record { from = from; message = m }) → Behind su h j e v s d sig
 behind_one su h j e v s d sig from (message_of.PrePrepare m) is at ok = absurd (let p = (and_parts (from == j) false is).1 in cc)
 behind_one su h j e v s d sig from (message_of.Prepare m) is at ok = absurd (let p = (and_parts (from == j) false is).1 in cc)
@@ -77,7 +82,7 @@ behind_one su h j e v s d sig from (message_of.Commit m) is at ok =
     let c : P j e v m.number m.digest = subst (λ v. P j e v m.number m.digest) (eqb-true m.view v o2.1) b in
     let f : P j e v s m.digest = subst (λ s. P j e v s m.digest) (eqb-true m.number s q.0) c in
     let same : m.sig ≡ sig = cc in
-    record { signer = ap (λ (g : Sig). g.signer) (sym same) ∙ eqb-true _ _ ok.named ∙ eqb-true from j p.0; ground = subst (λ d. P j e v s d) (bytes_same m.digest d q.1) f }
+    record { signer = ap (λ (g : Sig). g.signer) (sym same) ∙ eqb-true _ _ ok.named ∙ eqb-true from j p.0; spelled = subst HasSigSpelling same ok.fits.sig; ground = subst (λ d. P j e v s d) (bytes_same m.digest d q.1) f }
 
 behind : (su : Setup) (h : History) (j e v s : ℕ) (d : List ℕ) (sig : Sig) (letters : List Letter) → AllByRecursion (IsKeptWell su h e v s) letters
     → kept_sig s d letters j ≡ Some sig → Behind su h j e v s d sig
@@ -101,7 +106,7 @@ value_or : {X : Type 0} → X → Option X → X
 value_or d None = d
 value_or d (Some x) = x
 
-some_same : {X : Type 0} {x y : X} → Some x ≡ Some y → x ≡ y
+pub some_same : {X : Type 0} {x y : X} → Some x ≡ Some y → x ≡ y
 unfolding value_or
 some_same {x = x} h = ap (value_or x) h
 
@@ -140,21 +145,35 @@ due_is place w b cert false is h = due_some place w b cert w.accepted refl is h
 -- what a next block has
 pub record Next (place : Place) (b : Block) : Type 0 where
   pub number : b.header.number ≡ place.height
-  pub rest : (bytes_eq b.header.previous place.last && hashes_fit b) ≡ true
-  pub lawful : is_lawful place.config b ≡ true
+  pub below : IsNumber place.height
+  pub few : length b.requests ≤ 1000
 
 pub next_is : (place : Place) (b : Block) → is_next_block place b ≡ true → Next place b
 next_is place b h =
-    let a = and_parts ((b.header.number == place.height) && bytes_eq b.header.previous place.last && hashes_fit b) (is_lawful place.config b) h in
-    let c = and_parts ((b.header.number == place.height) && bytes_eq b.header.previous place.last) (hashes_fit b) a.0 in
-    let d = and_parts (b.header.number == place.height) (bytes_eq b.header.previous place.last) c.0 in
-    record { number = eqb-true _ _ d.0; rest = and_from _ _ d.1 c.1; lawful = a.1 }
+    let a = and_parts (has_number place.height b && bytes_eq b.header.previous place.last && hashes_fit b) (is_lawful place.config b) h in
+    let c = and_parts (has_number place.height b && bytes_eq b.header.previous place.last) (hashes_fit b) a.0 in
+    let d = and_parts (has_number place.height b) (bytes_eq b.header.previous place.last) c.0 in
+    let e = and_parts (b.header.number == place.height) (nat_lt place.height (2 ^ 62)) d.0 in
+    let f = and_parts (content_fits b) (meta_fits b) c.1 in
+    let g = and_parts (have_room b.requests) (bytes_eq b.header.content (content_hash b.requests)) f.0 in
+    let r = and_parts (nat_le (length b.requests) 1000) (list_all (λ (r : Request). nat_le (length r.payload) 65536) b.requests) g.0 in
+    record { number = eqb-true _ _ e.0; below = ltb-true _ _ e.1; few = leb-true _ _ r.0 }
 
 -- what is delivered was accepted, and is the block of the height
 pub delivery_is : (place : Place) (w : View) (b : Block) (cert : Cert) → delivery_due place w ≡ Some (b, cert) → (w.accepted ≡ Some b) × (b.header.number ≡ place.height)
 delivery_is place w b cert is =
     let due = due_is place w b cert (is_raft place.config) refl is in
     (due.accepted, (next_is place b due.next).number)
+
+-- its certificate has a spelling
+pub delivery_spelled : (su : Setup) (h : History) (i : ℕ) (place : Place) (w : View) (b : Block) (cert : Cert) → Stands su h i place w → IsNumber w.view → HasIdsSpelling place.config.members
+    → delivery_due place w ≡ Some (b, cert) → CertFits cert
+delivery_spelled su h i place w b cert st small members is =
+    let due = due_is place w b cert (is_raft place.config) refl is in
+    let d = block_hash b in
+    let each : (m : ℕ) (sig : Sig) → kept_sig place.height d w.kept m ≡ Some sig → IsSigOf m sig =
+    λ m sig fm. (let one = behind su h m place.config.number w.view place.height d sig w.kept st.kept fm in record { signer = one.signer; spelled = one.spelled }) in
+    subst CertFits due.cert_is (cert_fits (kept_sig place.height d w.kept) each w.view place.config.members small members)
 
 -- the certificate's signers are enough members that prepared
 proved : (su : Setup) (h : History) (i : ℕ) (place : Place) (w : View) (b : Block) → Stands su h i place w → nat_le (quorum_of place.config) (length (commits place w (block_hash b))) ≡ true

@@ -1,38 +1,40 @@
--- Blocks and messages whose numbers fit.
-use Rattle.std.proofs.Common.{◌≡◌, ℕ, ◌<◌, ◌≤◌, ◌^◌, List, []}
-use Rattle.std.specs.List.{All}
+-- Blocks, certificates and messages that have a spelling.
+use Rattle.std.proofs.Common.{ℕ, ◌≤◌}
+use Rattle.ord_types.specs.Grammar.{HasBlockSpelling, HasCertSpelling, HasIdsSpelling, IsNumber}
+use Rattle.ord_types.specs.declared.values.Proof.TheVariants as proof_of
 use Rattle.safety_model.specs.Blocks.{Block}
-use Rattle.safety_model.specs.Safety.{RequestFits}
+use Rattle.safety_model.specs.Facts.{Cert, Proof, signers_of}
 use Rattle.safety_model.specs.declared.fact.Fact.{Fact}
 use Rattle.safety_model.specs.declared.fact.Fact.TheVariants.{Accepted, Prepared, Delivered}
-use Rattle.bft_wire.specs.declared.message.Message.TheVariants as message_of
-use Rattle.node_model.specs.Letters.{Message}
+use Rattle.bft_wire.specs.Messages.{HasMessageSpelling}
+use Rattle.node_model.specs.declared.letter.VoteMessage.{VoteMessage}
+use Rattle.node_model.specs.Letters.{on_wire}
 
--- ids of four bytes
-abbrev pub AreSmall : List ℕ → Type 0
-AreSmall ids = All (λ id. id < 2 ^ 32) ids
-
--- a block of view 0 at number s whose numbers fit
+-- a block at number s that has a spelling, with no more decided before it in its view than stand before it
 pub record FitsAt (s : ℕ) (b : Block) : Type 0 where
-  pub view : b.meta.view ≡ 0
+  pub number : IsNumber s
   pub decided : b.meta.decided ≤ s
-  pub blacklist : b.meta.blacklist ≡ []
-  pub signers : AreSmall b.meta.signers
-  pub requests : All RequestFits b.requests
+  pub spelled : HasBlockSpelling b
 
--- the requests of a proposed block fit
-abbrev pub MessageFits : Message → Type 0
-MessageFits (message_of.PrePrepare m) = All RequestFits m.block.requests
-MessageFits (message_of.Prepare m) = Unit {0}
-MessageFits (message_of.Commit m) = Unit {0}
+-- a certificate that has a spelling, and whose signers may stand in a meta
+pub record CertFits (cert : Cert) : Type 0 where
+  pub spelled : HasCertSpelling cert
+  pub signers : HasIdsSpelling (signers_of cert)
 
--- a block that was delivered, where numbers up to most were proposed
-pub record DeliveredFits (most : ℕ) (b : Block) : Type 0 where
-  pub fits : FitsAt b.header.number b
-  pub number : b.header.number ≤ most
+abbrev pub ProofFits : Proof → Type 0
+ProofFits proof_of.Raft = Unit {0}
+ProofFits (proof_of.Bft cert) = CertFits cert
 
--- a fact, where numbers up to most were proposed
-abbrev pub FactIn : ℕ → Fact → Type 0
-FactIn most (Accepted i e v s d) = s ≤ most
-FactIn most (Prepared i e v s d) = Unit {0}
-FactIn most (Delivered i b proof) = DeliveredFits most b
+-- a vote message that has a spelling
+abbrev pub MessageFits : VoteMessage → Type 0
+MessageFits m = HasMessageSpelling (on_wire m)
+
+-- a block that was delivered, and what stands behind it
+pub record DeliveredFits (b : Block) (proof : Proof) : Type 0 where
+  pub block : FitsAt b.header.number b
+  pub behind : ProofFits proof
+
+abbrev pub FactFits : Fact → Type 0
+FactFits (Accepted i e v s d) = Unit {0}
+FactFits (Prepared i e v s d) = Unit {0}
+FactFits (Delivered i b proof) = DeliveredFits b proof

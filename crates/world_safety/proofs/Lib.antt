@@ -1,5 +1,6 @@
 pub mod Lists
 pub mod Fits
+pub mod Ids
 pub mod Standing
 pub mod Fitting
 pub mod Accepting
@@ -10,9 +11,10 @@ pub mod Own
 pub mod Nodes
 pub mod Sealing
 pub mod Placing
+pub mod Sending
 pub mod Makings
+pub mod Reading
 pub mod Worlds
-pub mod Lines
 pub mod Turns
 pub mod Safety
 pub mod Within

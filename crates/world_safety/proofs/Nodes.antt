@@ -1,11 +1,12 @@
 -- What a node is by the list of all facts, and that its acts keep it.
-use Rattle.std.proofs.Common.{◌≡◌, ℕ, Bool, true, false, ◌||◌, ◌&&◌, List, [], ◌∷◌, cond, refl, sym, subst, ap, ◌∙◌, inl, inr, Some, None, reverse}
+use Rattle.std.proofs.Common.{◌≡◌, ℕ, Bool, true, false, ◌||◌, ◌&&◌, List, [], ◌∷◌, cond, refl, sym, subst, ap, ◌∙◌, inl, inr, Option, Some, None, reverse}
 use Rattle.std.specs.Prelude.{◌==◌, not, filter}
 use Rattle.std.specs.List.{All, AllByRecursion, list_any}
 use Rattle.std.specs.Str.{bytes_eq}
 use Rattle.std.proofs.lemmas.Bool.{or_cases, or_left, or_right, and_parts, and_from, eqb-true, eq-eqb}
 use Rattle.ord_types.specs.Hashes.{block_hash}
 use Rattle.ord_types.specs.Members.{is_in, is_raft}
+use Rattle.ord_types.specs.Grammar.{HasRequestSpelling}
 use Rattle.ord_types.specs.declared.values.Proof.{Proof}
 use Rattle.safety_model.specs.Blocks.{Block}
 use Rattle.safety_model.specs.Facts.{History, has, is_accepted, is_accepted_at, is_prepared}
@@ -13,24 +14,26 @@ use Rattle.safety_model.specs.declared.fact.Fact.{Fact}
 use Rattle.safety_model.specs.declared.fact.Fact.TheVariants.{Accepted, Prepared, Delivered}
 use Rattle.safety_model.specs.State.{Setup, config_of, height, is_inside, tip}
 use Rattle.safety_model.specs.Rules.{IsRun, actor}
-use Rattle.safety_model.specs.Safety.{RequestFits}
 use Rattle.safety_model.proofs.FactTests.{bytes_eq_refl}
 use Rattle.safety_model.proofs.Deliveries.{tip_number}
 use Rattle.signer_edge.specs.Accepts.{Accepts}
-use Rattle.bft_wire.specs.declared.message.Message.TheVariants as message_of
+use Rattle.bft_wire.specs.declared.message.Message.{Message}
+use Rattle.bft_wire.specs.declared.message.Message.TheVariants as wire
+use Rattle.node_model.specs.declared.letter.VoteMessage.TheVariants as message_of
 use Rattle.node_model.specs.declared.letter.Letter.{Letter}
-use Rattle.node_model.specs.Letters.{Message, Commit, config_in, same_slot, view_in}
+use Rattle.node_model.specs.declared.letter.VoteMessage.{VoteMessage}
+use Rattle.node_model.specs.Letters.{Commit, config_in, letter_in, on_wire, same_slot, view_in}
 use Rattle.node_model.specs.Answers.{is_near, is_signed}
 use Rattle.node_model.specs.Steps.{Event, Tick, FromMember}
 use Rattle.node_model.specs.Past.{Past, Opened, Came, Did, Signed, accepted_block, facts_of}
-use Rattle.node_model.specs.Keeping.{firsts, is_of_view, is_timely, kept, letter_of, own_commit, place_of, timely, view_of}
+use Rattle.node_model.specs.Keeping.{firsts, is_of_view, is_timely, kept, letter_of, of_another, own_commit, place_of, timely, view_of}
 use Rattle.world_safety.specs.Resting.{has_ground, own}
 use Rattle.world_safety.proofs.Standing.{IsKeptWell, Stands, StandsLast, names, rests}
 use Rattle.world_safety.proofs.Fits.{FitsAt, MessageFits}
 use Rattle.world_safety.proofs.Lists.{all_append, all_filter, all_map, all_reverse}
 use Rattle.world_safety.proofs.Own.{config_own, height_own, own_more, own_other, tip_own}
 
--- a letter rests on a fact, names its sender, and what it proposes fits
+-- a letter rests on a fact, names its sender, and has a spelling
 pub record IsGoodLetter (su : Setup) (h : History) (letter : Letter) : Type 0 where
   pub rests : rests su h letter ≡ true
   pub named : names letter.from letter.message ≡ true
@@ -47,15 +50,30 @@ pub record NodeStands (su : Setup) (h : History) (i : ℕ) (past : Past) : Type 
 -- FACTS ARE ONLY ADDED
 
 pub ground_more : (h : History) (f : Fact) (from : ℕ) (m : Message) → has_ground h from m ≡ true → has_ground (f ∷ h) from m ≡ true
-ground_more h f from (message_of.PrePrepare m) is = or_right _ _ is
-ground_more h f from (message_of.Prepare m) is = or_right _ _ is
-ground_more h f from (message_of.Commit m) is = or_right _ _ is
+ground_more h f from (wire.PrePrepare m) is = or_right _ _ is
+ground_more h f from (wire.Prepare m) is = or_right _ _ is
+ground_more h f from (wire.Commit m) is = or_right _ _ is
+ground_more h f from (wire.ViewChange m) is = absurd (cc)
+ground_more h f from (wire.ViewData m) is = absurd (cc)
+ground_more h f from (wire.NewView m) is = absurd (cc)
+ground_more h f from (wire.HeartBeat m) is = absurd (cc)
+ground_more h f from (wire.HeartBeatReply m) is = absurd (cc)
+ground_more h f from (wire.Forward m) is = absurd (cc)
+ground_more h f from (wire.BlockAsk m) is = absurd (cc)
+ground_more h f from (wire.BlockReply m) is = absurd (cc)
+ground_more h f from (wire.HeaderAsk m) is = absurd (cc)
+ground_more h f from (wire.HeaderReply m) is = absurd (cc)
+ground_more h f from (wire.RaftVote m) is = absurd (cc)
+ground_more h f from (wire.RaftVoteReply m) is = absurd (cc)
+ground_more h f from (wire.RaftAppend m) is = absurd (cc)
+ground_more h f from (wire.RaftAppendReply m) is = absurd (cc)
+ground_more h f from (wire.RaftBlock m) is = absurd (cc)
 
 rests_more : (su : Setup) (h : History) (f : Fact) (letter : Letter) → rests su h letter ≡ true → rests su (f ∷ h) letter ≡ true
 rests_more su h f letter is =
-    elim (or_cases (is_in letter.from su.byzantine) (has_ground h letter.from letter.message) is) [
+    elim (or_cases (is_in letter.from su.byzantine) (has_ground h letter.from (on_wire letter.message)) is) [
       | inl y ↦ or_left _ _ y
-      | inr n ↦ or_right _ _ (ground_more h f letter.from letter.message n)
+      | inr n ↦ or_right _ _ (ground_more h f letter.from (on_wire letter.message) n)
     ]
 
 letters_more : (su : Setup) (h : History) (f : Fact) (letters : List Letter) → AllByRecursion (IsGoodLetter su h) letters → AllByRecursion (IsGoodLetter su (f ∷ h)) letters
@@ -150,7 +168,7 @@ did_deliver su h i past b proof st =
 
 -- IT KEEPS LETTERS
 
-signed_names : (accepts : Accepts) (from : ℕ) (m : Message) → is_signed accepts from m ≡ true → names from m ≡ true
+signed_names : (accepts : Accepts) (from : ℕ) (m : VoteMessage) → is_signed accepts from m ≡ true → names from m ≡ true
 signed_names accepts from (message_of.PrePrepare m) is = refl
 signed_names accepts from (message_of.Prepare m) is = refl
 signed_names accepts from (message_of.Commit m) is = (and_parts (m.sig.signer == from) _ is).0
@@ -162,7 +180,7 @@ timely_names su i h accepts letter is =
     && is_inside i c.number (view_in letter.message) h && is_near (height i h) letter) (is_signed accepts letter.from letter.message) is in
     signed_names accepts letter.from letter.message p.1
 
--- a letter that comes rests on a fact, and what it proposes fits
+-- a letter that comes rests on a fact, and has a spelling
 pub record IsBrought (su : Setup) (h : History) (letter : Letter) : Type 0 where
   pub rests : rests su h letter ≡ true
   pub fits : MessageFits letter.message
@@ -176,29 +194,33 @@ timely_good su h i g accepts letters all =
 
 -- it signs a Commit of what it prepared
 pub signed_commit : (su : Setup) (h : History) (i : ℕ) (past : Past) (m : Commit) (accepts : Accepts) → NodeStands su h i past
-    → has (is_prepared i m.config m.view m.number m.digest) h ≡ true → NodeStands su h i (Signed m accepts ∷ past)
-signed_commit su h i past m accepts st is =
+    → has (is_prepared i m.config m.view m.number m.digest) h ≡ true → MessageFits (message_of.Commit m) → NodeStands su h i (Signed m accepts ∷ past)
+signed_commit su h i past m accepts st is fits =
     record {
       own = st.own;
       timely = all_append (IsGoodLetter su h) (filter (is_timely su i (facts_of past) accepts) (own_commit i m ∷ [])) (timely su i past)
-          (timely_good su h i (facts_of past) accepts (own_commit i m ∷ []) (record { rests = or_right _ _ is; fits = tt }, tt)) st.timely;
+          (timely_good su h i (facts_of past) accepts (own_commit i m ∷ []) (record { rests = or_right _ _ is; fits = fits }, tt)) st.timely;
       accepted = st.accepted;
       fresh = st.fresh;
       fits = st.fits;
     }
 
--- what an event brings is good: the requests fit, or the letter rests on a fact
+-- what an event brings is good: the requests have a spelling, and so has the vote message that the bytes spell, which rests on a fact
 abbrev pub IsGoodEvent : Setup → History → Event → Type 0
-IsGoodEvent su h (Tick offer) = All RequestFits offer
-IsGoodEvent su h (FromMember letter) = IsBrought su h letter
+IsGoodEvent su h (Tick offer) = All HasRequestSpelling offer
+IsGoodEvent su h (FromMember from bytes) = (letter : Letter) → letter_in from bytes ≡ Some letter → IsBrought su h letter
 
 letter_brought : (su : Setup) (h : History) (i : ℕ) (event : Event) → IsGoodEvent su h event → AllByRecursion (IsBrought su h) (letter_of i event)
 letter_brought su h i (Tick offer) good = tt
-letter_brought su h i (FromMember letter) good = go (letter.from == i)
+letter_brought su h i (FromMember from bytes) good = go (letter_in from bytes) refl
   where
-    go : (t : Bool) → AllByRecursion (IsBrought su h) (cond t [] (letter ∷ []))
-    go true = tt
-    go false = (good, tt)
+    unless : (t : Bool) (letter : Letter) → IsBrought su h letter → AllByRecursion (IsBrought su h) (cond t [] (letter ∷ []))
+    unless true letter is = tt
+    unless false letter is = (is, tt)
+
+    go : (o : Option Letter) → letter_in from bytes ≡ o → AllByRecursion (IsBrought su h) (of_another i o)
+    go None is = tt
+    go (Some letter) is = unless (letter.from == i) letter (good letter is)
 
 -- an event comes
 pub event_came : (su : Setup) (h : History) (i : ℕ) (past : Past) (event : Event) (accepts : Accepts) → NodeStands su h i past → IsGoodEvent su h event

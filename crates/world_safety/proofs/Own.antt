@@ -1,13 +1,19 @@
 -- What the history says of a node, its own facts say.
-use Rattle.std.proofs.Common.{◌≡◌, ℕ, ◌+◌, Bool, true, false, List, [], ◌∷◌, ◌++◌, length, cond, refl, ap, ◌∙◌, append-nil, Option}
+use Rattle.std.proofs.Common.{◌≡◌, ℕ, ◌+◌, Bool, true, false, List, [], ◌∷◌, ◌++◌, length, map, reverse, cond, refl, sym, ap, ap₂, ◌∙◌, append-nil, Option}
 use Rattle.std.specs.Prelude.{◌==◌}
+use Rattle.std.specs.List.{AllByRecursion, flat_map}
+use Rattle.std.proofs.lemmas.Grind.{flat_map-append}
+use Rattle.std.proofs.lemmas.List.{map-append, reverse-append, reverse-reverse}
+use Rattle.ord_types.specs.declared.values.Proof.TheVariants as proof_of
 use Rattle.safety_model.specs.Blocks.{Block, config_at}
 use Rattle.safety_model.specs.Facts.{History, Proof}
 use Rattle.safety_model.specs.declared.fact.Fact.{Fact}
-use Rattle.safety_model.specs.declared.fact.Fact.TheVariants.{Delivered}
-use Rattle.safety_model.specs.State.{Setup, block_or, config_of, delivered, delivered_by, height, last_delivered, last_or, tip}
+use Rattle.safety_model.specs.declared.fact.Fact.TheVariants.{Accepted, Prepared, Delivered}
+use Rattle.safety_model.specs.State.{Setup, block_or, config_of, delivered, delivered_by, height, last_delivered, last_or, ledger, tip}
 use Rattle.safety_model.specs.Rules.{actor}
+use Rattle.world_model.specs.Worlds.{stored_in}
 use Rattle.world_safety.specs.Resting.{own}
+use Rattle.world_safety.specs.Safe.{stored}
 
 delivered_other : (i : ℕ) (f : Fact) → (actor f == i) ≡ false → delivered_by i f ≡ []
 delivered_other i (Delivered j b proof) h = rw h refl
@@ -48,3 +54,49 @@ own_more i f h is = rw is refl
 
 pub own_other : (i : ℕ) (f : Fact) (h : History) → (actor f == i) ≡ false → own i (f ∷ h) ≡ own i h
 own_other i f h is = rw is refl
+
+-- WHAT A NODE HAS STORED
+
+-- facts of the node, one after the other, and facts of another
+pub own_mine : (i : ℕ) (fs : List Fact) (h : History) → AllByRecursion (λ f. (actor f == i) ≡ true) fs → own i (fs ++ h) ≡ fs ++ own i h
+own_mine i [] h all = refl
+own_mine i (f ∷ fs) h all = own_more i f (fs ++ h) all.0 ∙ ap (λ (g : History). f ∷ g) (own_mine i fs h all.1)
+
+pub own_others : (i : ℕ) (fs : List Fact) (h : History) → AllByRecursion (λ f. (actor f == i) ≡ false) fs → own i (fs ++ h) ≡ own i h
+own_others i [] h all = refl
+own_others i (f ∷ fs) h all = own_other i f (fs ++ h) all.0 ∙ own_others i fs h all.1
+
+-- facts that a node makes stand behind those that it had
+pub stored_more : (su : Setup) (i : ℕ) (fs : List Fact) (h : History) → AllByRecursion (λ f. (actor f == i) ≡ true) (reverse fs) → stored su i (reverse fs ++ h) ≡ stored su i h ++ flat_map stored_in fs
+stored_more su i fs h mine =
+    let order : reverse (own i (reverse fs ++ h)) ≡ reverse (own i h) ++ fs =
+    ap reverse (own_mine i (reverse fs) h mine) ∙ reverse-append (reverse fs) (own i h) ∙ ap (λ (gs : List Fact). reverse (own i h) ++ gs) (reverse-reverse fs) in
+    ap (λ (more : List (Block × Proof)). (su.genesis, proof_of.Raft) ∷ more) (ap (flat_map stored_in) order ∙ flat_map-append stored_in (reverse (own i h)) fs)
+
+-- the blocks of one fact of the node
+blocks_one : (i : ℕ) (f : Fact) → (actor f == i) ≡ true → map (λ (entry : Block × Proof). entry.0) (flat_map stored_in (f ∷ [])) ≡ delivered_by i f
+blocks_one i (Accepted j e v s d) is = refl
+blocks_one i (Prepared j e v s d) is = refl
+blocks_one i (Delivered j b proof) is = rw is refl
+
+blocks_of : List Fact → List Block
+blocks_of fs = map (λ (entry : Block × Proof). entry.0) (flat_map stored_in fs)
+
+blocks_append : (fs gs : List Fact) → blocks_of (fs ++ gs) ≡ blocks_of fs ++ blocks_of gs
+unfolding blocks_of
+blocks_append fs gs = ap (map (λ (entry : Block × Proof). entry.0)) (flat_map-append stored_in fs gs) ∙ map-append (λ (entry : Block × Proof). entry.0) (flat_map stored_in fs) (flat_map stored_in gs)
+
+blocks_own : (i : ℕ) (h : History) → blocks_of (reverse (own i h)) ≡ delivered i h
+unfolding blocks_of
+blocks_own i [] = refl
+blocks_own i (f ∷ h) = go (actor f == i) refl (blocks_own i h)
+  where
+    go : (t : Bool) → (actor f == i) ≡ t → blocks_of (reverse (own i h)) ≡ delivered i h → blocks_of (reverse (cond t (f ∷ own i h) (own i h))) ≡ delivered i h ++ delivered_by i f
+    go true is rest =
+        ap blocks_of (reverse-append (f ∷ []) (own i h)) ∙ blocks_append (reverse (own i h)) (f ∷ []) ∙ ap₂ (λ (a b : List Block). a ++ b) rest (blocks_one i f is)
+    go false is rest = rest ∙ sym (append-nil (delivered i h)) ∙ ap (λ (bs : List Block). delivered i h ++ bs) (sym (delivered_other i f is))
+
+-- the blocks are those of the ledger
+pub stored_blocks : (su : Setup) (i : ℕ) (h : History) → map (λ (entry : Block × Proof). entry.0) (stored su i h) ≡ ledger su i h
+unfolding blocks_of
+stored_blocks su i h = ap (λ (bs : List Block). su.genesis ∷ bs) (blocks_own i h)

@@ -12,8 +12,9 @@ use Rattle.safety_model.specs.State.{Setup, height, config_of, view, left}
 use Rattle.safety_model.specs.Rules.{quorum_of, is_backed}
 use Rattle.safety_model.proofs.Quorums.{how_many_more}
 use Rattle.safety_model.proofs.FactTests.{bytes_same}
-use Rattle.bft_wire.specs.declared.message.Message.TheVariants as message_of
-use Rattle.node_model.specs.Letters.{Message, is_prepare_for}
+use Rattle.node_model.specs.declared.letter.VoteMessage.TheVariants as message_of
+use Rattle.node_model.specs.declared.letter.VoteMessage.{VoteMessage}
+use Rattle.node_model.specs.Letters.{is_prepare_for}
 use Rattle.node_model.specs.Leading.{Place}
 use Rattle.node_model.specs.Acts.{View, digest_if, has_prepare, is_inside_view, is_members_prepare, is_voting, preparation_due, prepares}
 use Rattle.world_safety.proofs.Standing.{IsKeptWell, Stands, PreparationsAreAllowed}
@@ -28,7 +29,7 @@ found test P (x ∷ xs) any every =
     ]
 
 -- a kept Prepare rests on its sender's acceptance
-ground_of : (su : Setup) (h : History) (j e v s : ℕ) (d : List ℕ) (from : ℕ) (m : Message) → ((from == j) && is_prepare_for s d m) ≡ true
+ground_of : (su : Setup) (h : History) (j e v s : ℕ) (d : List ℕ) (from : ℕ) (m : VoteMessage) → ((from == j) && is_prepare_for s d m) ≡ true
     → IsKeptWell su h e v s (record { from = from; message = m }) → (is_in j su.byzantine || has (is_accepted j e v s d) h) ≡ true
 ground_of su h j e v s d from (message_of.PrePrepare m) is ok = absurd (let p = (and_parts (from == j) false is).1 in cc)
 ground_of su h j e v s d from (message_of.Commit m) is ok = absurd (let p = (and_parts (from == j) false is).1 in cc)
@@ -45,13 +46,13 @@ ground_of su h j e v s d from (message_of.Prepare m) is ok =
     subst (λ d. P j e v s d) (bytes_same m.digest d q.1) f
 
 -- what a preparation has that is due
-record Due (place : Place) (w : View) (d : List ℕ) : Type 0 where
-  voting : is_voting place w ≡ true
-  inside : is_inside_view w ≡ true
-  block : Block
-  accepted : w.accepted ≡ Some block
-  digest : block_hash block ≡ d
-  quorum : nat_le (quorum_of place.config) (prepares place w d) ≡ true
+pub record Due (place : Place) (w : View) (d : List ℕ) : Type 0 where
+  pub voting : is_voting place w ≡ true
+  pub inside : is_inside_view w ≡ true
+  pub block : Block
+  pub accepted : w.accepted ≡ Some block
+  pub digest : block_hash block ≡ d
+  pub quorum : nat_le (quorum_of place.config) (prepares place w d) ≡ true
 
 digest_is : (test : List ℕ → Bool) (b : Block) (d : List ℕ) (t : Bool) → test (block_hash b) ≡ t → cond t (Some (block_hash b)) None ≡ Some d → (block_hash b ≡ d) × (test d ≡ true)
 digest_is test b d true is h = let same : block_hash b ≡ d = cc in (same, ap test (sym same) ∙ is)
@@ -73,7 +74,7 @@ due_cases place w d true is h =
     let b = digest_cases place w d w.accepted refl h in
     record { voting = q.0; inside = q.1; block = b.0; accepted = b.1; digest = b.2; quorum = b.3 }
 
-due_is : (place : Place) (w : View) (d : List ℕ) → preparation_due place w ≡ Some d → Due place w d
+pub due_is : (place : Place) (w : View) (d : List ℕ) → preparation_due place w ≡ Some d → Due place w d
 due_is place w d h = due_cases place w d (is_voting place w && is_inside_view w && not w.is_prepared) refl h
 
 -- each counted member is Byzantine or accepted

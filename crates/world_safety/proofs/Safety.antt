@@ -1,71 +1,70 @@
 -- Every world of every script is safe.
-use Rattle.std.proofs.Common.{◌≡◌, ℕ, ◌+◌, ◌*◌, ◌^◌, ◌<◌, ◌≤◌, true, [], subst, sym, ap, ◌∙◌, Option, Some, None, arith}
-use Rattle.std.specs.List.{All, AllByRecursion}
-use Rattle.std.proofs.lemmas.List.Elements.{All-nil}
+use Rattle.std.proofs.Common.{◌≡◌, true, [], map, subst, sym, ap, ◌∙◌, Option, Some, None, arith}
+use Rattle.std.specs.List.{AllByRecursion}
+use Rattle.std.proofs.lemmas.List.Elements.{All-from_recursion}
+use Rattle.ord_types.specs.Grammar.{HasBlockSpelling, HasRequestSpelling, IsWord}
 use Rattle.ord_types.specs.Members.{is_in}
-use Rattle.safety_model.specs.Blocks.{Block}
-use Rattle.safety_model.specs.Facts.{History}
+use Rattle.safety_model.specs.Blocks.{Block, Request}
+use Rattle.safety_model.specs.Facts.{History, Proof}
 use Rattle.safety_model.specs.Rules.{IsRun, actor}
-use Rattle.safety_model.specs.Safety.{Agreement, AllFit, Fits, NoCollision}
+use Rattle.safety_model.specs.Safety.{Agreement, AllFit, Fits, NoCollision, RequestFits}
 use Rattle.safety_model.specs.State.{Setup}
 use Rattle.safety_model.specs.declared.fact.Fact.TheVariants.{Delivered}
 use Rattle.safety_model.proofs.Agreeing.{runs_agree}
 use Rattle.script.specs.Commands.{AreIds}
-use Rattle.script_play.specs.Runs.{max_lines}
 use Rattle.node_model.specs.Keeping.{PastNode}
 use Rattle.world_model.specs.Histories.{worlds_of}
 use Rattle.world_model.specs.Turns.{first_config}
-use Rattle.world_model.specs.Worlds.{Entry, World}
-use Rattle.world_safety.specs.Resting.{has_ground}
-use Rattle.world_safety.specs.Safe.{EveryWorldIsSafe, IsNodeOf, IsSafe, IsSafeWorld, setup_of, setup_on}
-use Rattle.world_safety.proofs.Fits.{FactIn, FitsAt}
+use Rattle.world_model.specs.Worlds.{World}
+use Rattle.world_safety.specs.Safe.{EveryWorldIsSafe, IsNodeOf, IsReadable, IsSafe, IsSafeWorld, RestsIn, setup_of, setup_on}
+use Rattle.world_safety.proofs.Fits.{FactFits}
 use Rattle.world_safety.proofs.Fitting.{all_stands}
-use Rattle.world_safety.proofs.Lines.{IsGoodAt}
 use Rattle.world_safety.proofs.Lists.{all_map}
+use Rattle.world_safety.proofs.Own.{stored_blocks}
+use Rattle.world_safety.proofs.Reading.{EntryIn, entry_readable, entry_rests}
 use Rattle.world_safety.proofs.Turns.{IsGood, IsGoodIn, worlds_good}
-use Rattle.world_safety.proofs.Worlds.{EntryIn, NodeIn}
+use Rattle.world_safety.proofs.Worlds.{NodeIn}
 
--- a block of a small number fits
-block_fits : (s : ℕ) (b : Block) → FitsAt s b → s < 2 ^ 64 → Fits b
-block_fits s b is small =
-    let view = is.view in
-    let decided = is.decided in
+-- a block that has a spelling fits
+request_fits : (r : Request) → HasRequestSpelling r → RequestFits r
+request_fits r is = record { client = is.client; serial = is.serial }
+
+block_fits : (b : Block) → HasBlockSpelling b → Fits b
+block_fits b is =
+    let view = is.meta.view in
+    let decided = is.meta.decided in
     record {
       view = omega arith;
       decided = omega arith;
-      blacklist = subst (All (λ id. id < 2 ^ 32)) (sym is.blacklist) (All-nil (λ id. id < 2 ^ 32));
-      signers = is.signers;
-      requests = is.requests;
+      blacklist = All-from_recursion IsWord b.meta.blacklist is.meta.blacklist.words;
+      signers = All-from_recursion IsWord b.meta.signers is.meta.signers.words;
+      requests = All-from_recursion RequestFits b.requests (all_map HasRequestSpelling RequestFits request_fits b.requests is.requests.requests);
     }
 
--- so all delivered blocks do, where few were proposed
-all_fit : (most : ℕ) (h : History) → most < 2 ^ 64 → AllByRecursion (FactIn most) h → AllFit h
-all_fit most h small within i b proof st =
-    let it = all_stands (FactIn most) h (Delivered i b proof) within st in
-    let number = it.number in
-    block_fits b.header.number b it.fits (omega arith)
+-- so all delivered blocks do
+all_fit : (h : History) → AllByRecursion FactFits h → AllFit h
+all_fit h fit i b proof st = block_fits b (all_stands FactFits h (Delivered i b proof) fit st).block.spelled
 
-world_safe : (number : ℕ) (w : World PastNode History) → number ≤ max_lines + 1 → IsGood number w → IsSafeWorld w
-world_safe number w le is =
+world_safe : (w : World PastNode History) → IsGood w → IsSafeWorld w
+world_safe w is =
     let su = is.setup in
     let good = is.good in
     let here : su ≡ setup_of w = good.first ∙ ap (λ ids. setup_on (first_config ids)) (sym good.members) in
-    let nodes = all_map (NodeIn su w.told w.seals) (IsNodeOf su w.told) (λ node p. record { setup = p.setup; id = p.id; facts = p.stands.own }) w.nodes good.nodes in
-    let agreement : NoCollision su w.told → Agreement su w.told =
-    λ apart. runs_agree su w.told good.honest.genesis good.run (all_fit (10000 * number) w.told (omega arith) good.within) apart in
+    let nodes = all_map (NodeIn su w.told w.seals) (IsNodeOf su w.told) (λ node p. record { setup = p.setup; id = p.id; facts = p.stands.own; stored = p.stored; blocks = ap (map (λ (entry : Block × Proof). entry.0)) p.stored ∙ stored_blocks su node.id w.told }) w.nodes good.nodes in
+    let agreement : NoCollision su w.told → Agreement su w.told = λ apart. runs_agree su w.told good.honest.genesis good.run (all_fit w.told good.fit) apart in
     record {
       members = subst AreIds (sym good.members) good.ids;
       nodes = subst (λ (su : Setup). AllByRecursion (IsNodeOf su w.told) w.nodes) here nodes;
       actors = subst (λ ids. AllByRecursion (λ f. is_in (actor f) ids ≡ true) w.told) (sym good.members) good.actors;
       run = subst (λ (su : Setup). IsRun su w.told) here good.run;
-      resting = all_map (EntryIn w.told) (λ (e : Entry). has_ground w.told e.from e.message ≡ true) (λ e p. p.ground) w.network good.network;
+      readable = all_map (EntryIn w.told) IsReadable (entry_readable w.told) w.network good.network;
+      resting = all_map (EntryIn w.told) (RestsIn w.told) (entry_rests w.told) w.network good.network;
       agreement = subst (λ (su : Setup). NoCollision su w.told → Agreement su w.told) here agreement;
     }
 
-pub good_safe : (o : Option (World PastNode History)) (number : ℕ) → number ≤ max_lines + 1 → IsGoodIn number o → IsSafe o
-good_safe None number le good = tt
-good_safe (Some w) number le good = world_safe number w le good
+pub good_safe : (o : Option (World PastNode History)) → IsGoodIn o → IsSafe o
+good_safe None good = tt
+good_safe (Some w) good = world_safe w good
 
 pub worlds_safe : EveryWorldIsSafe
-worlds_safe script =
-    all_map (IsGoodAt IsGoodIn) IsSafe (λ o is. good_safe o is.number is.within is.good) (worlds_of [] script) (worlds_good script)
+worlds_safe script = all_map IsGoodIn IsSafe good_safe (worlds_of [] script) (worlds_good script)

@@ -23,11 +23,13 @@ use Rattle.signer_edge.specs.Statements.{commit_text}
 use Rattle.signer_edge.specs.declared.seals.Seal.{Seal}
 use Rattle.signer_edge.proofs.CertificateFacts.{is_good_cert-kept}
 use Rattle.signer_edge.proofs.SealFacts.{is_sealed-grown}
-use Rattle.bft_wire.specs.declared.message.Message.TheVariants as message_of
+use Rattle.bft_wire.specs.declared.message.Message.{Message}
+use Rattle.node_model.specs.declared.letter.VoteMessage.TheVariants as message_of
 use Rattle.node_model.specs.declared.letter.Letter.{Letter}
 use Rattle.node_model.specs.Acts.{acceptance_due, delivery_due, preparation_due, proposed}
 use Rattle.node_model.specs.Answers.{is_near, is_signed}
-use Rattle.node_model.specs.Letters.{Message, config_in, view_in}
+use Rattle.node_model.specs.declared.letter.VoteMessage.{VoteMessage}
+use Rattle.node_model.specs.Letters.{config_in, view_in}
 use Rattle.node_model.specs.Past.{Past, facts_of}
 use Rattle.node_model.specs.Keeping.{PastNode, is_of_view, is_timely, kept, letter_of, own_commit, past_place, past_view, past_ways, place_of, timely, view_of}
 use Rattle.node_model.specs.Steps.{Event, FromMember, Keys, Making, Tick, accept_round, begins, commit_message, deliver_round, makes_accepted, makes_delivered, makes_prepared, next, own_rule, prepare_round, preprepare_message, propose_round, rounds, votes}
@@ -39,7 +41,7 @@ use Rattle.world_safety.proofs.Nodes.{all_firsts}
 
 -- WHAT IS ACCEPTED STAYS ACCEPTED
 
-message_more : (old new : Accepts) → KeepsAccepted old new → (from : ℕ) (m : Message) → is_signed old from m ≡ true → is_signed new from m ≡ true
+message_more : (old new : Accepts) → KeepsAccepted old new → (from : ℕ) (m : VoteMessage) → is_signed old from m ≡ true → is_signed new from m ≡ true
 message_more old new more from (message_of.PrePrepare m) is = refl
 message_more old new more from (message_of.Prepare m) is = refl
 message_more old new more from (message_of.Commit m) is =
@@ -174,7 +176,7 @@ module _ (c : Config) (keys : Keys) (grows : (signed : List (List ℕ)) (stateme
 
   own_rule_sealed : (m : Making PastNode) → IsSealedMaking c keys m → (event : Event) → IsSealedMaking c keys (own_rule past_ways event m)
   own_rule_sealed m is (Tick offer) = propose_round_sealed m is (proposed (past_place m.state) (past_view m.state) offer)
-  own_rule_sealed m is (FromMember letter) = is
+  own_rule_sealed m is (FromMember from bytes) = is
 
   next_sealed : (n : PastNode) (event : Event) → IsSealedNode c (keys.accepts []) n → IsSealedMaking c keys (next past_ways keys n event)
   unfolding next

@@ -11,9 +11,10 @@ use Rattle.safety_model.specs.declared.fact.Fact.TheVariants.{Accepted, Prepared
 use Rattle.safety_model.specs.Rules.{Allowed, is_correct, keeps_bound}
 use Rattle.safety_model.specs.State.{Setup, height, tip, config_of, view, left}
 use Rattle.signer_edge.specs.Accepts.{Accepts}
-use Rattle.bft_wire.specs.declared.message.Message.TheVariants as message_of
+use Rattle.node_model.specs.declared.letter.VoteMessage.TheVariants as message_of
 use Rattle.node_model.specs.declared.letter.Letter.{Letter}
-use Rattle.node_model.specs.Letters.{Message}
+use Rattle.node_model.specs.declared.letter.VoteMessage.{VoteMessage}
+use Rattle.node_model.specs.Letters.{on_wire}
 use Rattle.node_model.specs.Leading.{Place}
 use Rattle.node_model.specs.Acts.{View, acceptance_due, delivery_due, preparation_due, proposed}
 use Rattle.node_model.specs.Keeping.{is_of_view}
@@ -22,15 +23,15 @@ use Rattle.world_safety.proofs.Fits.{MessageFits}
 
 -- a letter is of a Byzantine member, or rests on a fact
 abbrev pub rests : Setup → History → Letter → Bool
-rests su h letter = is_in letter.from su.byzantine || has_ground h letter.from letter.message
+rests su h letter = is_in letter.from su.byzantine || has_ground h letter.from (on_wire letter.message)
 
 -- a Commit's signature names its sender
-abbrev pub names : ℕ → Message → Bool
+abbrev pub names : ℕ → VoteMessage → Bool
 names from (message_of.PrePrepare m) = true
 names from (message_of.Prepare m) = true
 names from (message_of.Commit m) = m.sig.signer == from
 
--- a kept letter rests on a fact, names its sender, is of this configuration and view, near this height, and has a block that fits
+-- a kept letter rests on a fact, names its sender, is of this configuration and view, near this height, and has a spelling
 pub record IsKeptWell (su : Setup) (h : History) (e v s : ℕ) (letter : Letter) : Type 0 where
   pub rests : IsTrue (rests su h letter)
   pub named : IsTrue (names letter.from letter.message)

@@ -3,13 +3,14 @@ use Rattle.std.proofs.Common.{◌≡◌, ℕ, zero, suc, ◌+◌, ◌-◌, Bool,
 use Rattle.std.specs.Prelude.{codes, nat_lt, position, slice_get}
 use Rattle.std.specs.List.{flat_map}
 use Rattle.std.proofs.lemmas.List.{append-nil, append_assoc, map-append, reverse-append}
-use Rattle.safety_model.specs.Blocks.{Request}
-use Rattle.safety_model.specs.Facts.{History}
+use Rattle.ord_types.specs.Spelling.{request_text}
+use Rattle.safety_model.specs.Blocks.{Block}
+use Rattle.safety_model.specs.Facts.{History, Proof}
 use Rattle.safety_model.specs.declared.fact.Fact.{Fact}
 use Rattle.line_flow.specs.Lines.{lines}
 use Rattle.script.specs.Grammar.{meaning}
 use Rattle.script.specs.declared.command.Command.{Command}
-use Rattle.script.specs.declared.command.Command.TheVariants.{Genesis, Submit, Tick, Deliver, Flush}
+use Rattle.script.specs.declared.command.Command.TheVariants.{Genesis, Submit, Raw, Show, Tick, Deliver, Flush}
 use Rattle.script.specs.declared.command.Meaning.{Meaning}
 use Rattle.script.specs.declared.command.Meaning.TheVariants.{Nothing, Means, Wrong}
 use Rattle.script.specs.declared.command.Stop.TheVariants as stop_of
@@ -23,10 +24,10 @@ use Rattle.node_model.specs.Keeping.{PastNode}
 use Rattle.node_model.specs.Steps.{Event}
 use Rattle.world_model.specs.Histories.{past_setting}
 use Rattle.world_model.specs.Pools.{answer}
-use Rattle.world_model.specs.Texts.{deliver_text, fact_text, flush_text, limit_text}
-use Rattle.world_model.specs.Turns.{at_node, closing_of, deliver_turn, deliveries, delivery, delivery_to, event_turn, flush_turn, flushes, goes_on, most_entries, most_flushed, ordinary, refuses, says, some_world, submit_turn, then_on, tick_at, ticks, turn_in, turn_of}
+use Rattle.world_model.specs.Texts.{deliver_text, fact_text, flush_text, limit_text, show_text}
+use Rattle.world_model.specs.Turns.{at_node, closing_of, deliver_turn, deliveries, delivery, delivery_to, event_turn, flush_turn, flushes, goes_on, most_entries, most_flushed, ordinary, refuses, says, show_turn, shows, some_world, submit_turn, then_on, tick_at, ticks, turn_in, turn_of}
 use Rattle.world_model.specs.Worlds.{Entry, Node, entry, is_waiting, letter_from, making, marked, node_at, tick_of}
-use Rattle.world_safety.specs.Telling.{EveryTextIsTold, IsTold, NoEntry, NoWorld, Part, Refusal, Reply, SecondGenesis, UnknownNode, blocks_text, end_text, events_of, facts_of, histories_after, last_of, part_text, parts_text, reply_text, told_in}
+use Rattle.world_safety.specs.Telling.{EveryTextIsTold, IsTold, NoBlock, NoEntry, NoWorld, Part, Refusal, Reply, SecondGenesis, UnknownNode, blocks_text, end_text, events_of, facts_of, histories_after, last_of, part_text, parts_text, reply_text, told_in}
 use Rattle.world_safety.specs.Telling as it
 use Rattle.world_safety.specs.Within.{PastWorld, after_delivery, after_event, after_letter, after_submit, after_tick, in_deliver, in_deliveries, in_flush, in_flushes, in_ticks, where_node, worlds_in, worlds_in_line, worlds_in_lines, worlds_in_turn, worlds_said}
 
@@ -201,9 +202,17 @@ module _ (number : ℕ) where
   flush_tells only (suc n) count w =
       flushes_tell w (position (is_waiting only) w.network) count (λ next. in_flush number only n next) (λ next. flush_turn past_setting number only n (count + 1) next) (λ next. flush_tells only n (count + 1) next)
 
-  -- SUBMIT
-  submit_tells : (w : PastWorld) (node : Node PastNode) (r : Request) → Tells told number w (after_submit w node r ∷ []) (submit_turn number w node r)
-  submit_tells w node r = record { events = [] ∷ []; reply = it.Answered node.id (answer node.pool r); histories = refl; printed = refl; next = refl }
+  -- SUBMIT and RAW
+  submit_tells : (word : List ℕ) (w : PastWorld) (node : Node PastNode) (bytes : List ℕ) → Tells told number w (after_submit w node bytes ∷ []) (submit_turn number word w node bytes)
+  submit_tells word w node bytes = record { events = [] ∷ []; reply = it.Answered word node.id (answer node.pool bytes); histories = refl; printed = refl; next = refl }
+
+  -- SHOW
+  show_tells : (w : PastWorld) (node : Node PastNode) (block : ℕ) → Tells told number w [] (show_turn number w node block)
+  show_tells w node block = go (slice_get node.ledger block)
+    where
+      go : (o : Option (Block × Proof)) → Tells told number w [] (shows number w node o)
+      go None = replies told w (refuses number (codes "no block") w) (it.Refused NoBlock) refl refl
+      go (Some stored) = replies told w (says (show_text number node.id stored.0 stored.1) w) (it.Shown node.id stored.0 stored.1) refl refl
 
   -- A COMMAND
   node_tells : (w : PastWorld) (o : Option (Node PastNode)) (within : Node PastNode → List PastWorld) (turn : Node PastNode → Turn PastWorld)
@@ -211,11 +220,19 @@ module _ (number : ℕ) where
   node_tells w None within turn each = replies told w (refuses number (codes "unknown node") w) (it.Refused UnknownNode) refl refl
   node_tells w (Some node) within turn each = each node
 
+  -- a block is shown where the node is known
+  show_line : (w : PastWorld) (o : Option (Node PastNode)) (block : ℕ) → Tells told number w [] (at_node number w o (λ node. show_turn number w node block))
+  show_line w None block = replies told w (refuses number (codes "unknown node") w) (it.Refused UnknownNode) refl refl
+  show_line w (Some node) block = show_tells w node block
+
   command_tells : (w : PastWorld) (command : Command) → Tells told number w (worlds_in number w command) (turn_in past_setting number w command)
   command_tells w (Genesis members) = replies told w (refuses number (codes "second genesis") w) (it.Refused SecondGenesis) refl refl
   command_tells w (Submit id client serial payload) =
-      let r = ordinary client serial payload in
-      node_tells w (node_at id w.nodes) (λ node. after_submit w node r ∷ []) (λ node. submit_turn number w node r) (λ node. submit_tells w node r)
+      let bytes = request_text (ordinary client serial payload) in
+      node_tells w (node_at id w.nodes) (λ node. after_submit w node bytes ∷ []) (λ node. submit_turn number (codes "submit") w node bytes) (λ node. submit_tells (codes "submit") w node bytes)
+  command_tells w (Raw id bytes) =
+      node_tells w (node_at id w.nodes) (λ node. after_submit w node bytes ∷ []) (λ node. submit_turn number (codes "raw") w node bytes) (λ node. submit_tells (codes "raw") w node bytes)
+  command_tells w (Show id block) = show_line w (node_at id w.nodes) block
   command_tells w (Tick id count) = node_tells w (node_at id w.nodes) (λ node. in_ticks number id count w) (λ node. ticks past_setting number id count w) (λ node. ticks_tell id count w)
   command_tells w (Deliver ranges) = deliver_tells ranges 0 w
   command_tells w (Flush only) = flush_tells only most_flushed 0 w
@@ -243,6 +260,8 @@ module _ (number : ℕ) where
   unfolding turn_of
   turn_tells None (Genesis members) = record { events = [] ∷ []; reply = it.Begun; histories = refl; printed = refl; next = refl }
   turn_tells None (Submit id client serial payload) = none_tells
+  turn_tells None (Raw id bytes) = none_tells
+  turn_tells None (Show id block) = none_tells
   turn_tells None (Tick id count) = none_tells
   turn_tells None (Deliver ranges) = none_tells
   turn_tells None (Flush only) = none_tells
@@ -252,7 +271,7 @@ module _ (number : ℕ) where
   said_tells : (o : Option PastWorld) (m : Meaning) → Tells told_in number o (worlds_said o number m) (said (turn_of past_setting) o number m)
   said_tells o Nothing = replies told_in o (said (turn_of past_setting) o number Nothing) it.Silent refl refl
   said_tells o (Means command) = turn_tells o command
-  said_tells o (Wrong (stop_of.Malformed place)) = replies told_in o (said (turn_of past_setting) o number (Wrong (stop_of.Malformed place))) it.Malformed refl (λ o. refl)
+  said_tells o (Wrong (stop_of.Malformed place)) = replies told_in o (said (turn_of past_setting) o number (Wrong (stop_of.Malformed place))) (it.Malformed place) refl (λ o. refl)
   said_tells o (Wrong stop_of.NotBuilt) = replies told_in o (said (turn_of past_setting) o number (Wrong stop_of.NotBuilt)) it.NotBuilt refl (λ o. refl)
 
   limit_tells : (o : Option PastWorld) (limit : ℕ) → Tells told_in number o [] (limit_turn number limit)

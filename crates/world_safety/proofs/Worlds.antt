@@ -1,38 +1,42 @@
 -- Every event keeps a world in which the nodes' facts are a run and the messages rest on them.
-use Rattle.std.proofs.Common.{◌≡◌, ℕ, zero, suc, ◌+◌, ◌<◌, ◌≤◌, Bool, true, false, List, [], ◌∷◌, ◌++◌, length, reverse, cond, refl, sym, subst, ap, ◌∙◌, Some, get_or, set, arith}
+use Rattle.std.proofs.Common.{◌≡◌, ℕ, zero, suc, ◌+◌, ◌<◌, ◌≤◌, Bool, true, false, List, [], ◌∷◌, ◌++◌, reverse, cond, refl, sym, subst, ap, ◌∙◌, Some, set, arith}
 use Rattle.std.specs.Prelude.{◌==◌, not, slice_get}
-use Rattle.std.specs.List.{All, AllByRecursion, AllPairs, find, flat_map}
-use Rattle.std.specs.List.Sorted.{IsStrictlyIncreasing}
+use Rattle.std.specs.List.{All, AllByRecursion, find, flat_map}
 use Rattle.std.proofs.lemmas.Bool.{eq-eqb, eqb-true, false_from_ne_true}
 use Rattle.std.proofs.lemmas.List.Elements.{All-filter}
-use Rattle.std.proofs.lemmas.List.Kept.{AllPairs-from_increasing}
+use Rattle.ord_types.specs.Grammar.{Ascend, HasRequestSpelling, IsWord}
 use Rattle.ord_types.specs.Members.{is_in}
-use Rattle.safety_model.specs.Facts.{History}
+use Rattle.ord_types.specs.declared.values.Proof.TheVariants as proof_of
+use Rattle.safety_model.specs.Blocks.{Block}
+use Rattle.safety_model.specs.Facts.{History, Proof}
 use Rattle.safety_model.specs.declared.fact.Fact.{Fact}
 use Rattle.safety_model.specs.State.{Setup}
 use Rattle.safety_model.specs.Rules.{IsRun, actor}
-use Rattle.safety_model.specs.Safety.{RequestFits}
 use Rattle.script.specs.Commands.{AreIds}
 use Rattle.signer_edge.specs.Seals.{is_sealed}
 use Rattle.signer_edge.specs.Signing.{KeepsAccepted}
 use Rattle.signer_edge.specs.declared.seals.Seal.{Seal}
 use Rattle.signer_edge.proofs.SealFacts.{is_sealed-grown}
-use Rattle.node_model.specs.Letters.{Message}
+use Rattle.bft_wire.specs.Spelling.{message_text}
+use Rattle.bft_wire.specs.declared.message.Message.{Message}
 use Rattle.node_model.specs.Past.{Past}
 use Rattle.node_model.specs.Keeping.{PastNode}
 use Rattle.node_model.specs.Steps.{Event, Post}
 use Rattle.world_model.specs.Histories.{past_setting}
 use Rattle.world_model.specs.Pools.{has_id}
 use Rattle.world_model.specs.Turns.{first_config}
-use Rattle.world_model.specs.Worlds.{Entry, Node, World, keys_of, making, node_after, requests_in, seals_of, sent_by, with_node, world_after}
+use Rattle.world_model.specs.Worlds.{Entry, Node, World, keys_of, making, node_after, requests_in, seals_of, sent_by, stored_in, with_node, world_after}
 use Rattle.world_safety.specs.Certified.{IsCertifiedFact}
 use Rattle.world_safety.specs.Resting.{has_ground}
-use Rattle.world_safety.specs.Safe.{ids_of, setup_on}
+use Rattle.world_safety.specs.Safe.{ids_of, setup_on, stored}
 use Rattle.world_safety.proofs.Lists.{all_append, all_map, all_mapped, all_reverse}
-use Rattle.world_safety.proofs.Fits.{FactIn}
-use Rattle.world_safety.proofs.Makings.{IsGoodMessage, IsGoodPost, MakingStands, next_stands, proposals_of, told, within_more}
+use Rattle.world_safety.proofs.Fits.{FactFits}
+use Rattle.world_safety.proofs.Ids.{member_has}
+use Rattle.world_safety.proofs.Makings.{IsGoodPost, MakingStands, next_stands, told}
+use Rattle.world_safety.proofs.Own.{own_others, stored_more}
 use Rattle.world_safety.proofs.Placing.{IsHonest}
 use Rattle.world_safety.proofs.Nodes.{IsGoodEvent, NodeStands, ground_more, other_did}
+use Rattle.world_safety.proofs.Reading.{EntryIn, seals_fit}
 use Rattle.world_safety.proofs.Sealing.{IsSealedMaking, IsSealedNode, facts_certified, node_sealed, step_sealed}
 
 -- a node of the world, where these are all facts, and this is the box of seals
@@ -41,25 +45,21 @@ pub record NodeIn (su : Setup) (h : History) (box : List Seal) (node : Node Past
   pub id : node.state.id ≡ node.id
   pub member : is_in node.id su.config.members ≡ true
   pub stands : NodeStands su h node.id node.state.past
-  pub pool : All RequestFits node.pool
+  pub pool : All HasRequestSpelling node.pool
+  pub stored : node.ledger ≡ stored su node.id h
   pub sealed : IsSealedNode su.config (is_sealed box) node.state
-
--- an entry rests on a fact of its sender, and what it proposes fits
-abbrev pub EntryIn : History → Entry → Type 0
-EntryIn h e = IsGoodMessage h e.from e.message
 
 -- no two ids are equal
 abbrev pub Apart : List ℕ → Type 0
 Apart [] = Unit {0}
 Apart (x ∷ xs) = AllByRecursion (λ y. (y == x) ≡ false) xs × Apart xs
 
--- a world in which numbers up to most were proposed
-pub record GoodWorld (su : Setup) (most : ℕ) (w : World PastNode History) : Type 0 where
+pub record GoodWorld (su : Setup) (w : World PastNode History) : Type 0 where
   pub first : su ≡ setup_on (first_config su.config.members)
   pub ids : AreIds su.config.members
   pub honest : IsHonest su
   pub run : IsRun su w.told
-  pub within : AllByRecursion (FactIn most) w.told
+  pub fit : AllByRecursion FactFits w.told
   pub members : ids_of w.nodes ≡ su.config.members
   pub actors : AllByRecursion (λ f. is_in (actor f) su.config.members ≡ true) w.told
   pub nodes : AllByRecursion (NodeIn su w.told w.seals) w.nodes
@@ -68,21 +68,18 @@ pub record GoodWorld (su : Setup) (most : ℕ) (w : World PastNode History) : Ty
 
 -- MEMBERS IN ASCENDING ORDER ARE APART
 
-above : (x : ℕ) (xs : List ℕ) → ((j : ℕ) (d : ℕ) → j < length xs → x < get_or xs j d) → AllByRecursion (λ y. (y == x) ≡ false) xs
-above x [] f = tt
-above x (y ∷ ys) f =
-    let lt : x < y = f 0 y (omega arith) in
-    (false_from_ne_true (y == x) (λ is. let same = eqb-true y x is in omega arith), above x ys (λ j d k. f (suc j) d (omega arith)))
+above : (x least : ℕ) (xs : List ℕ) → x < least → Ascend least xs → AllByRecursion (λ y. (y == x) ≡ false) xs
+above x least [] low up = tt
+above x least (y ∷ ys) low up =
+    let from : least ≤ y = up.0 in
+    (false_from_ne_true (y == x) (λ is. let same = eqb-true y x is in omega arith), above x (y + 1) ys (omega arith) up.1)
 
-pairs_apart : (xs : List ℕ) → AllPairs (λ x y. x < y) xs → Apart xs
-pairs_apart [] all = tt
-pairs_apart (x ∷ xs) all = (above x xs (λ j d lt. all 0 (suc j) d (omega arith) (omega arith)), pairs_apart xs (λ i j d lt le. all (suc i) (suc j) d (omega arith) (omega arith)))
+ascending_apart : (least : ℕ) (xs : List ℕ) → Ascend least xs → Apart xs
+ascending_apart least [] up = tt
+ascending_apart least (x ∷ xs) up = (above x (x + 1) xs (omega arith) up.1, ascending_apart (x + 1) xs up.1)
 
-ascending_apart : (xs : List ℕ) → IsStrictlyIncreasing xs → Apart xs
-ascending_apart xs up = pairs_apart xs (AllPairs-from_increasing xs up)
-
-pub nodes_apart : (su : Setup) (most : ℕ) (w : World PastNode History) → GoodWorld su most w → Apart (ids_of w.nodes)
-nodes_apart su most w good = subst Apart (sym good.members) (ascending_apart su.config.members good.ids.ascending)
+pub nodes_apart : (su : Setup) (w : World PastNode History) → GoodWorld su w → Apart (ids_of w.nodes)
+nodes_apart su w good = subst Apart (sym good.members) (ascending_apart 1 su.config.members good.honest.members.ascending)
 
 -- FACTS OF ONE NODE, one after the other
 
@@ -90,12 +87,19 @@ ground_over : (h : History) (fs : List Fact) (from : ℕ) (m : Message) → has_
 ground_over h [] from m is = is
 ground_over h (f ∷ fs) from m is = ground_more (fs ++ h) f from m (ground_over h fs from m is)
 
+not_mine : (i j : ℕ) (f : Fact) → (actor f == i) ≡ true → (j == i) ≡ false → (actor f == j) ≡ false
+not_mine i j f mine other =
+    false_from_ne_true (actor f == j) (λ y. let same : actor f ≡ j = eqb-true (actor f) j y in let yes : (j == i) ≡ true = eq-eqb j i (sym same ∙ eqb-true (actor f) i mine) in cc)
+
 other_over : (su : Setup) (h : History) (i j : ℕ) (past : Past) (fs : List Fact) → AllByRecursion (λ f. (actor f == i) ≡ true) fs → (j == i) ≡ false → NodeStands su h j past → NodeStands su (fs ++ h) j past
 other_over su h i j past [] all other st = st
-other_over su h i j past (f ∷ fs) all other st =
-    let is : actor f ≡ i = eqb-true (actor f) i all.0 in
-    let not_mine : (actor f == j) ≡ false = false_from_ne_true (actor f == j) (λ y. let same : actor f ≡ j = eqb-true (actor f) j y in let yes : (j == i) ≡ true = eq-eqb j i (sym same ∙ is) in cc) in
-    other_did su (fs ++ h) j past f not_mine (other_over su h i j past fs all.1 other st)
+other_over su h i j past (f ∷ fs) all other st = other_did su (fs ++ h) j past f (not_mine i j f all.0 other) (other_over su h i j past fs all.1 other st)
+
+-- they change nothing in the ledger of another
+stored_others : (su : Setup) (i j : ℕ) (fs : List Fact) (h : History) → AllByRecursion (λ f. (actor f == i) ≡ true) fs → (j == i) ≡ false → stored su j (fs ++ h) ≡ stored su j h
+stored_others su i j fs h all other =
+    ap (λ (facts : History). (su.genesis, proof_of.Raft) ∷ flat_map stored_in (reverse facts))
+    (own_others j fs h (all_map (λ f. (actor f == i) ≡ true) (λ f. (actor f == j) ≡ false) (λ f is. not_mine i j f is other) fs all))
 
 -- A NODE IN PLACE OF THE ONE OF ITS ID
 
@@ -123,21 +127,22 @@ with_new P Q new keep good (node ∷ nodes) apart all = go (node.id == new.id) r
 
 -- AN EVENT
 
-pub event_keeps : (su : Setup) (most : ℕ) (w : World PastNode History) (node : Node PastNode) (event : Event) → GoodWorld su most w → NodeIn su w.told w.seals node → IsGoodEvent su w.told event
-    → GoodWorld su (most + proposals_of event) (world_after past_setting w node (making past_setting w node event))
-event_keeps su most w node event good is brought =
+pub event_keeps : (su : Setup) (w : World PastNode History) (node : Node PastNode) (event : Event) → GoodWorld su w → NodeIn su w.told w.seals node → IsGoodEvent su w.told event
+    → GoodWorld su (world_after past_setting w node (making past_setting w node event))
+event_keeps su w node event good is brought =
     let h = w.told in
     let m = making past_setting w node event in
     let i = node.id in
-    let more = most + proposals_of event in
-    let st : MakingStands su i h more m = next_stands su i h good.honest most (keys_of w.seals i) node.state event is.setup is.id good.run good.within is.stands brought in
+    let word : IsWord i = member_has IsWord i su.config.members good.honest.members.words is.member in
+    let st : MakingStands su i h m = next_stands su i h good.honest (keys_of w.seals i) (seals_fit w.seals i word) node.state event is.setup is.id good.run good.fit is.stands brought in
     let g = told h m in
     let run : IsRun su g = subst (λ su. IsRun su g) st.setup st.run in
     let mine : NodeStands su g i m.state.past = subst (λ i. NodeStands su g i m.state.past) st.id (subst (λ su. NodeStands su g m.state.id m.state.past) st.setup st.node) in
     let acts : AllByRecursion (λ f. (actor f == i) ≡ true) (reverse m.facts) = all_reverse (λ f. (actor f == i) ≡ true) m.facts (subst (λ i. AllByRecursion (λ f. (actor f == i) ≡ true) m.facts) st.id st.actors) in
     let posts : AllByRecursion (IsGoodPost g i) m.posts = subst (λ i. AllByRecursion (IsGoodPost g i) m.posts) st.id st.posts in
     let new = node_after node m in
-    let sent = all_mapped (EntryIn g) (λ (post : Post). record { from = i; to = post.to; message = post.message; came = false }) m.posts posts in
+    let sent = all_mapped (EntryIn g) (λ (post : Post). record { from = i; to = post.to; bytes = message_text post.message; came = false }) m.posts
+    (all_map (IsGoodPost g i) (λ (post : Post). EntryIn g (record { from = i; to = post.to; bytes = message_text post.message; came = false })) (λ post good. record { message = post.message; text = refl; good = good }) m.posts posts) in
     let delivered = flat_map requests_in m.facts in
     let box = w.seals ++ seals_of i m.signed in
     let grown : KeepsAccepted (is_sealed w.seals) (is_sealed box) = is_sealed-grown w.seals (seals_of i m.signed) in
@@ -147,7 +152,7 @@ event_keeps su most w node event good is brought =
       ids = good.ids;
       honest = good.honest;
       run = run;
-      within = st.within;
+      fit = st.fit;
       members = with_ids new w.nodes ∙ good.members;
       actors = all_append (λ f. is_in (actor f) su.config.members ≡ true) (reverse m.facts) h
           (all_map (λ f. (actor f == i) ≡ true) (λ f. is_in (actor f) su.config.members ≡ true) (λ f mine. subst (λ id. is_in id su.config.members ≡ true) (sym (eqb-true (actor f) i mine)) is.member) (reverse m.facts) acts) good.actors;
@@ -158,30 +163,23 @@ event_keeps su most w node event good is brought =
             member = before.member;
             stands = other_over su h i other.id other.state.past (reverse m.facts) acts not_it before.stands;
             pool = before.pool;
+            stored = before.stored ∙ sym (stored_others su i other.id (reverse m.facts) h acts not_it);
             sealed = node_sealed (is_sealed w.seals) (is_sealed box) grown su.config other.state before.sealed;
           })
-          (record { setup = st.setup; id = st.id; member = is.member; stands = mine; pool = All-filter (λ r. not (has_id r.id delivered)) RequestFits node.pool is.pool; sealed = sealed.node })
-          w.nodes (nodes_apart su most w good) good.nodes;
+          (record {
+            setup = st.setup;
+            id = st.id;
+            member = is.member;
+            stands = mine;
+            pool = All-filter (λ r. not (has_id r.id delivered)) HasRequestSpelling node.pool is.pool;
+            stored = ap (λ (entries : List (Block × Proof)). entries ++ flat_map stored_in m.facts) is.stored ∙ sym (stored_more su i m.facts h acts);
+            sealed = sealed.node;
+          })
+          w.nodes (nodes_apart su w good) good.nodes;
       network = all_append (EntryIn g) w.network (sent_by i m.posts)
-          (all_map (EntryIn h) (EntryIn g) (λ e p. record { ground = ground_over h (reverse m.facts) e.from e.message p.ground; fits = p.fits }) w.network good.network) sent;
+          (all_map (EntryIn h) (EntryIn g) (λ e p. record { message = p.message; text = p.text; good = record { ground = ground_over h (reverse m.facts) e.from p.message p.good.ground; spelled = p.good.spelled } }) w.network good.network) sent;
       certified = all_append (IsCertifiedFact (is_sealed box) su.config) (reverse m.facts) h (all_reverse (IsCertifiedFact (is_sealed box) su.config) m.facts sealed.facts)
           (facts_certified (is_sealed w.seals) (is_sealed box) grown su.config h good.certified);
-    }
-
--- more may have been proposed
-pub world_more : (su : Setup) (most more : ℕ) (w : World PastNode History) → most ≤ more → GoodWorld su most w → GoodWorld su more w
-world_more su most more w le good =
-    record {
-      first = good.first;
-      ids = good.ids;
-      honest = good.honest;
-      run = good.run;
-      within = within_more most more le w.told good.within;
-      members = good.members;
-      actors = good.actors;
-      nodes = good.nodes;
-      network = good.network;
-      certified = good.certified;
     }
 
 -- WHAT IS FOUND

@@ -1,14 +1,15 @@
 -- The text of a script is told by the histories of its worlds: the block lines are those of the facts that happened, line by line.
 use Rattle.std.specs.Prelude.{◌≡◌, ℕ, ◌+◌, List, [], ◌∷◌, ◌++◌, codes, map, reverse, Option, Some, None}
 use Rattle.std.specs.List.{AllByRecursion, flat_map}
-use Rattle.safety_model.specs.Facts.{History}
+use Rattle.safety_model.specs.Blocks.{Block}
+use Rattle.safety_model.specs.Facts.{History, Proof}
 use Rattle.safety_model.specs.declared.fact.Fact.{Fact}
 use Rattle.script_play.specs.declared.ending.Ending.{Ending}
 use Rattle.script_play.specs.declared.ending.Ending.TheVariants.{Done}
 use Rattle.script_play.specs.Texts.{malformed_text, not_built_text}
 use Rattle.world_model.specs.Histories.{past_setting, run_of}
 use Rattle.world_model.specs.Pools as pool
-use Rattle.world_model.specs.Texts.{answer_text, deliver_text, fact_text, flush_text, genesis_text, limit_text, refused_text, tick_text}
+use Rattle.world_model.specs.Texts.{answer_text, deliver_text, fact_text, flush_text, genesis_text, limit_text, refused_text, show_text, tick_text}
 use Rattle.world_model.specs.Turns.{closing_of}
 use Rattle.world_safety.specs.Safe.{IsSafe}
 use Rattle.world_safety.specs.Within.{PastWorld, all_worlds_of}
@@ -36,20 +37,24 @@ pub data Refusal : Type 0 where
   SecondGenesis : Refusal
   UnknownNode : Refusal
   NoEntry : Refusal
+  NoBlock : Refusal
 
 abbrev pub reason : Refusal → List ℕ
 reason NoWorld = codes "no world"
 reason SecondGenesis = codes "second genesis"
 reason UnknownNode = codes "unknown node"
 reason NoEntry = codes "no entry"
+reason NoBlock = codes "no block"
 
 -- what is said of a line in the end, behind its block lines
 pub data Reply : Type 0 where
   -- an empty line, or a comment
   Silent : Reply
   Begun : Reply
-  -- the node, and its pool's answer
-  Answered : ℕ → pool.Answer → Reply
+  -- the line's first word, the node, and its pool's answer
+  Answered : List ℕ → ℕ → pool.Answer → Reply
+  -- the node, and what stands in its ledger
+  Shown : ℕ → Block → Proof → Reply
   -- the node
   Ticked : ℕ → Reply
   -- how many entries came
@@ -58,19 +63,21 @@ pub data Reply : Type 0 where
   Refused : Refusal → Reply
   -- the limit that was reached
   Limited : ℕ → Reply
-  Malformed : Reply
+  -- the place of the first byte that isn't in the grammar
+  Malformed : ℕ → Reply
   NotBuilt : Reply
 
 abbrev pub reply_text : ℕ → Reply → List ℕ
 reply_text number Silent = []
 reply_text number Begun = genesis_text number
-reply_text number (Answered node answer) = answer_text number node answer
+reply_text number (Answered word node answer) = answer_text number word node answer
+reply_text number (Shown node b proof) = show_text number node b proof
 reply_text number (Ticked node) = tick_text number node
 reply_text number (Came count) = deliver_text number count
 reply_text number (Flushed count) = flush_text number count
 reply_text number (Refused refusal) = refused_text number (reason refusal)
 reply_text number (Limited limit) = limit_text number limit
-reply_text number Malformed = malformed_text number
+reply_text number (Malformed place) = malformed_text number place
 reply_text number NotBuilt = not_built_text number
 
 -- the facts of each event of a line, and its reply

@@ -1,12 +1,12 @@
 -- All worlds that a script goes through: the one after each event of each line, that past the network's limit included.
 use Rattle.std.specs.Prelude.{ℕ, zero, suc, ◌+◌, ◌-◌, nat_lt, List, [], ◌∷◌, ◌++◌, length, map, position, slice_get, Option, Some, None, if◌then◌else◌}
 use Rattle.std.specs.List.{AllByRecursion, Contains}
-use Rattle.safety_model.specs.Blocks.{Request}
+use Rattle.ord_types.specs.Spelling.{request_text}
 use Rattle.safety_model.specs.Facts.{History}
 use Rattle.line_flow.specs.Lines.{lines}
 use Rattle.script.specs.Grammar.{meaning}
 use Rattle.script.specs.declared.command.Command.{Command}
-use Rattle.script.specs.declared.command.Command.TheVariants.{Genesis, Submit, Tick, Deliver, Flush}
+use Rattle.script.specs.declared.command.Command.TheVariants.{Genesis, Submit, Raw, Show, Tick, Deliver, Flush}
 use Rattle.script.specs.declared.command.Meaning.{Meaning}
 use Rattle.script.specs.declared.command.Meaning.TheVariants.{Nothing, Means, Wrong}
 use Rattle.script.specs.declared.command.Range.{Range}
@@ -73,10 +73,10 @@ unfoldable pub in_flush : ℕ → Option (List ℕ) → ℕ → PastWorld → Li
 in_flush number only zero w = []
 in_flush number only (suc n) w = in_flushes number w (position (is_waiting only) w.network) (λ next. in_flush number only n next)
 
--- SUBMIT
+-- SUBMIT and RAW: bytes come to the pool of a node
 
-abbrev pub after_submit : PastWorld → Node PastNode → Request → PastWorld
-after_submit w node r = record w { nodes = with_node (submitted node r) w.nodes }
+abbrev pub after_submit : PastWorld → Node PastNode → List ℕ → PastWorld
+after_submit w node bytes = record w { nodes = with_node (submitted node bytes) w.nodes }
 
 -- A COMMAND
 
@@ -87,7 +87,10 @@ where_node (Some node) worlds = worlds node
 
 abbrev pub worlds_in : ℕ → PastWorld → Command → List PastWorld
 worlds_in number w (Genesis members) = []
-worlds_in number w (Submit id client serial payload) = where_node (node_at id w.nodes) (λ node. after_submit w node (ordinary client serial payload) ∷ [])
+worlds_in number w (Submit id client serial payload) =
+    where_node (node_at id w.nodes) (λ node. after_submit w node (request_text (ordinary client serial payload)) ∷ [])
+worlds_in number w (Raw id bytes) = where_node (node_at id w.nodes) (λ node. after_submit w node bytes ∷ [])
+worlds_in number w (Show id block) = []
 worlds_in number w (Tick id count) = where_node (node_at id w.nodes) (λ node. in_ticks number id count w)
 worlds_in number w (Deliver ranges) = in_deliver number ranges w
 worlds_in number w (Flush only) = in_flush number only most_flushed w
