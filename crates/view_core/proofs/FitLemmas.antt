@@ -1,36 +1,37 @@
 -- What the calls answer has a spelling, since what is held has one.
-use Rattle.std.proofs.Common.{◌≡◌, ℕ, ◌+◌, ◌<◌, ◌≤◌, ◌^◌, Bool, true, false, cond, ◌&&◌, ◌==◌, List, [], ◌∷◌, ◌++◌, length, filter, filter_map, refl, sym, ap, ◌∙◌, subst, arith, Option, Some, None, Result, Ok, Err, IfOk}
+use Rattle.std.proofs.Common.{◌≡◌, ℕ, ◌+◌, ◌≤◌, ◌^◌, Bool, true, false, cond, ◌&&◌, ◌==◌, List, [], ◌∷◌, ◌++◌, length, filter, filter_map, refl, sym, ◌∙◌, subst, arith, Option, Some, None, Result, Ok, Err, IfOk}
 use Rattle.std.specs.Prelude.{IfSome, is_none, nat_le}
 use Rattle.std.specs.List.{All, cons_option, list_all}
+use Rattle.std.specs.Option.{ForSome}
+use Rattle.std.proofs.lemmas.Option.{none-some, same_Some}
 use Rattle.std.proofs.lemmas.Bool.{and_from, and_parts, ltb-true}
 use Rattle.std.proofs.lemmas.List.Elements.{All-nil, All-cons}
 use Rattle.std.proofs.lemmas.List.Folds.{list_all-append}
 use Rattle.bft_wire.specs.declared.reason.Reason.{Reason}
 use Rattle.ord_types.specs.Hashes.{block_hash}
 use Rattle.ord_types.specs.Lengths.{FitsBlock, FitsCert, FitsSig}
-use Rattle.ord_types.specs.Members.{is_in, is_raft}
+use Rattle.ord_types.specs.Members.{is_raft}
 use Rattle.ord_types.specs.declared.lists.NoMemory.{NoMemory}
 use Rattle.ord_types.specs.declared.values.Block.{Block}
-use Rattle.ord_types.specs.declared.values.Cert.{Cert}
 use Rattle.ord_types.specs.declared.values.Place.{Place}
 use Rattle.ord_types.specs.declared.values.Request.{Request}
 use Rattle.ord_types.specs.declared.values.Sig.{Sig}
 use Rattle.chan_config.proofs.Fitting.{next_fits}
 use Rattle.signer_edge.specs.Accepts.{Accepts}
-use Rattle.node_model.specs.Acts.{View, acceptance_due, accept_act, block_if, certificate, commits, deliver_act, delivery_due, delivery_if, due, first_of, is_acceptable, is_inside_view, is_voting, kept_proposal, kept_sig, may_propose, preparation_due, prepare_act, proposal, proposed, quorum_of, sig_in, sig_of}
+use Rattle.node_model.specs.Acts.{View, acceptance_due, accept_act, block_if, carried_cert, certificate, commits, deliver_act, delivery_due, delivery_if, due, first_of, is_acceptable, is_inside_view, is_voting, kept_proposal, kept_sig, may_propose, preparation_due, prepare_act, proposal, proposed, quorum_of, sig_in, sig_of}
 use Rattle.node_model.specs.Answers.{accepts_nothing, act_or, at_place, due_answer, first_reason, fresh, is_near, is_new, is_same_config, keep, kept_after, kept_or, message_reasons, offer_reasons, own_reasons, prepare_answer, propose_answer, raised, reason_or, stands_outside, vote_answer}
 use Rattle.node_model.specs.Checks.{is_block_of_view, is_carried_good, is_next_block, signers_carried}
-use Rattle.node_model.specs.Leading.{leader, meta_eq, next_meta}
+use Rattle.node_model.specs.Leading.{is_at_start, leader, meta_eq, next_meta}
 use Rattle.node_model.specs.Letters.{is_commit_for}
 use Rattle.bft_wire.specs.declared.message.PrePrepare.{PrePrepare}
 use Rattle.bft_wire.specs.declared.reason.Reason.TheVariants as reason
 use Rattle.node_model.specs.declared.act.Act.{Act}
-use Rattle.node_model.specs.declared.act.Act.TheVariants as act_of
 use Rattle.node_model.specs.declared.letter.Letter.{Letter}
 use Rattle.node_model.specs.declared.letter.VoteMessage.{VoteMessage}
 use Rattle.node_model.specs.declared.letter.VoteMessage.TheVariants as message_of
 use Rattle.view_core.specs.Fits.{FitsAct}
 use Rattle.view_core.specs.Held.{IsHeld, are_short, is_held, is_short}
+use Rattle.view_core.specs.Places.{IsPlace}
 
 -- WHAT IS HELD
 
@@ -46,6 +47,7 @@ held_short config members view height (x ∷ xs) h =
 short_where : (test : Letter → Bool) (x : Letter) (xs : List Letter) (t : Bool) → is_short x.message ≡ true → are_short (filter test xs) ≡ true → are_short (cond t (x ∷ filter test xs) (filter test xs)) ≡ true
 short_where test x xs true one all = and_from _ _ one all
 short_where test x xs false one all = all
+
 short_filter : (test : Letter → Bool) (xs : List Letter) → are_short xs ≡ true → are_short (filter test xs) ≡ true
 short_filter test [] h = refl
 short_filter test (x ∷ xs) h =
@@ -203,3 +205,20 @@ kept_short config members view height kept letters h same = subst (λ ls. are_sh
 pub IfOk-fits : (r : Result Act NoMemory) (answer : Act) → IfOk r (λ act. act ≡ answer) → FitsAct answer → IfOk r FitsAct
 IfOk-fits (Ok act) answer is h = subst FitsAct (sym is) h
 IfOk-fits (Err e) answer is h = tt
+
+-- the two ways to say a fact of the value that there may be
+pub IfSome-from_ForSome : {A : Type 0} (o : Option A) (P : A → Type 0) → ForSome o P → IfSome o P
+IfSome-from_ForSome None P h = tt
+IfSome-from_ForSome (Some x) P h = h x refl
+
+pub ForSome-from_IfSome : {A : Type 0} (o : Option A) (P : A → Type 0) → IfSome o P → ForSome o P
+ForSome-from_IfSome None P h = λ x is. absurd (none-some x is)
+ForSome-from_IfSome (Some y) P h = λ x is. subst P (same_Some y x is) h
+
+carried_where : (place : Place) (t : Bool) → IsPlace place → IfSome (cond t None place.last_cert) FitsCert
+carried_where place true h = tt
+carried_where place false h = IfSome-from_ForSome place.last_cert FitsCert h.cert
+
+-- the certificate that a proposal carries has a spelling
+pub carried_fits : (place : Place) → IsPlace place → IfSome (carried_cert place) FitsCert
+carried_fits place h = carried_where place (is_at_start place) h

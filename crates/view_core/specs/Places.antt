@@ -1,7 +1,7 @@
 -- The places that a view's calls take.
-use Rattle.std.specs.Prelude.{◌≡◌, ◌≤◌, ◌<◌, ◌^◌, ◌==◌, not, is_some, Some, [], ◌∷◌, length}
+use Rattle.std.specs.Prelude.{◌≡◌, ◌≤◌, ◌<◌, ◌^◌, ◌==◌, not, is_some, [], ◌∷◌, length}
+use Rattle.std.specs.Option.{ForSome}
 use Rattle.ord_types.specs.Lengths.{FitsCert}
-use Rattle.ord_types.specs.declared.values.Cert.{Cert}
 use Rattle.bft_wire.specs.declared.reason.Reason.TheVariants as reason
 use Rattle.node_model.specs.Acts.{View}
 use Rattle.node_model.specs.Answers.{Reasons}
@@ -15,7 +15,7 @@ pub record IsPlace (place : Place) : Type 0 where
   pub behind : 1 ≤ place.height
   pub height : place.height < 2 ^ 62
   pub decided : place.last_meta.decided < 2 ^ 62
-  pub cert : (cert : Cert) → place.last_cert ≡ Some cert → FitsCert cert
+  pub cert : ForSome place.last_cert FitsCert
 
 -- a view stands under the place's configuration, at its height
 pub record StandsAt (place : Place) (w : View) : Type 0 where
