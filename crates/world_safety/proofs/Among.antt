@@ -10,15 +10,8 @@ use Rattle.world_model.specs.Histories.{past_setting}
 use Rattle.world_model.specs.Turns.{turn_of}
 use Rattle.world_safety.specs.Telling.{last_of}
 use Rattle.world_safety.specs.Within.{PastWorld, WorldsAreAmongAll, all_worlds_of, worlds_in_line, worlds_in_lines}
+use Rattle.world_safety.proofs.Lists.{all_last, all_parts}
 use Rattle.world_safety.proofs.Telling.{GoesTo, line_tells}
-
-all_parts : {X : Type 0} (P : X → Type 0) (xs ys : List X) → AllByRecursion P (xs ++ ys) → AllByRecursion P xs × AllByRecursion P ys
-all_parts P [] ys all = (tt, all)
-all_parts P (x ∷ xs) ys all = let parts = all_parts P xs ys all.1 in ((all.0, parts.0), parts.1)
-
-at_last : {X : Type 0} (P : X → Type 0) (x : X) (xs : List X) → P x → AllByRecursion P xs → P (last_of x xs)
-at_last P x [] here all = here
-at_last P x (y ∷ xs) here all = at_last P y xs all.0 all.1
 
 -- what holds of all worlds holds of those between the lines
 module _ (P : Option PastWorld → Type 0) where
@@ -26,7 +19,7 @@ module _ (P : Option PastWorld → Type 0) where
       → AllByRecursion P (here ++ worlds_after r within) → ((next : Option PastWorld) → P next → AllByRecursion P (within next) → AllByRecursion P (between next)) → AllByRecursion P (worlds_after r between)
   behind o here (Ok next) within between holds to all more =
       let parts = all_parts P here (within next) all in
-      more next (subst P (sym to) (at_last P o here holds parts.0)) parts.1
+      more next (subst P (sym to) (all_last P o here holds parts.0)) parts.1
   behind o here (Err ending) within between holds to all more = tt
 
   between_lines : (ls : List (List ℕ)) (o : Option PastWorld) (number : ℕ) → P o → AllByRecursion P (worlds_in_lines ls o number) → AllByRecursion P (worlds (turn_of past_setting) ls o number)

@@ -1,6 +1,6 @@
 -- The text of a script is told by the histories of its worlds: the block lines are those of the facts that happened, line by line.
-use Rattle.std.specs.Prelude.{◌≡◌, ℕ, ◌+◌, List, [], ◌∷◌, ◌++◌, codes, map, reverse, Option, Some, None}
-use Rattle.std.specs.List.{AllByRecursion, flat_map}
+use Rattle.std.specs.Prelude.{◌≡◌, ℕ, ◌+◌, List, [], ◌∷◌, ◌++◌, codes, map, reverse, slice_get, Option, Some, None, ⊤}
+use Rattle.std.specs.List.{AllByRecursion, Contains, flat_map}
 use Rattle.safety_model.specs.Blocks.{Block}
 use Rattle.safety_model.specs.Facts.{History, Proof}
 use Rattle.safety_model.specs.declared.fact.Fact.{Fact}
@@ -11,6 +11,8 @@ use Rattle.world_model.specs.Histories.{past_setting, run_of}
 use Rattle.world_model.specs.Pools as pool
 use Rattle.world_model.specs.Texts.{answer_text, deliver_text, fact_text, flush_text, genesis_text, limit_text, refused_text, show_text, tick_text}
 use Rattle.world_model.specs.Turns.{closing_of}
+use Rattle.world_model.specs.Worlds.{Node, node_at}
+use Rattle.node_model.specs.Keeping.{PastNode}
 use Rattle.world_safety.specs.Safe.{IsSafe}
 use Rattle.world_safety.specs.Within.{PastWorld, all_worlds_of}
 
@@ -80,6 +82,22 @@ reply_text number (Limited limit) = limit_text number limit
 reply_text number (Malformed place) = malformed_text number place
 reply_text number NotBuilt = not_built_text number
 
+-- this stands in the ledger of the world's node of this id
+pub record IsStored (w : PastWorld) (id : ℕ) (b : Block) (proof : Proof) : Type 0 where
+  pub node : Node PastNode
+  pub at : node_at id w.nodes ≡ Some node
+  pub place : ℕ
+  pub stands : slice_get node.ledger place ≡ Some (b, proof)
+
+abbrev pub IsStoredIn : Option PastWorld → ℕ → Block → Proof → Type 0
+IsStoredIn None id b proof = ⊥
+IsStoredIn (Some w) id b proof = IsStored w id b proof
+
+-- what is shown stands in a ledger of one of these worlds
+abbrev pub IsShownIn : (Option PastWorld → Type 0) → Reply → Type 0
+IsShownIn among (Shown id b proof) = (o : Option PastWorld) × among o × IsStoredIn o id b proof
+IsShownIn among _ = ⊤
+
 -- the facts of each event of a line, and its reply
 pub record Part : Type 0 where
   pub events : List (List Fact)
@@ -113,11 +131,12 @@ end_text _ o = []
 
 -- There is one world for each event, whose history grew by the facts of that event, so that the last world's history has
 -- them all; and the text has the block lines of these facts, in their order, and no others: beside them only the replies
--- to the lines, and the closing lines of the last world.
+-- to the lines, and the closing lines of the last world. What a reply shows stood in the ledger of the node that it names.
 pub record IsTold (script : List ℕ) : Type 0 where
   pub parts : List Part
   pub histories : map told_in (all_worlds_of [] script) ≡ [] ∷ histories_after [] (events_of parts)
   pub last : told_in (last_of None (all_worlds_of [] script)) ≡ reverse (facts_of (events_of parts))
+  pub shown : AllByRecursion (λ (part : Part). IsShownIn (Contains (all_worlds_of [] script)) part.reply) parts
   pub text : (run_of [] script).text ≡ parts_text 1 parts ++ end_text (run_of [] script).ending (last_of None (all_worlds_of [] script))
 
 -- all worlds of every script are safe, not only those between its lines
