@@ -11,3 +11,4 @@ pub mod StepLemmas
 pub mod SubmitLemmas
 pub mod TickLemmas
 pub mod ViewLemmas
+pub mod ShowLemmas

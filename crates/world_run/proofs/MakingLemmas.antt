@@ -419,6 +419,15 @@ heard_own b node outside from bytes (Some message) is own h = Makes-own b node o
 pub Makes-heard : (b : Before) (node : Node) (outside : Outside) (from : ℕ) (bytes : List ℕ) (m : Message) → message_in bytes ≡ Some m → from ≡ node.id → Stands b node outside → Makes b (bytes_begin b node from bytes) act_of.Kept node outside
 Makes-heard b node outside from bytes m is own h = heard_own b node outside from bytes (vote_in m) (letter_is from bytes m is) own h
 
+-- a message of a kind that has no rule, or none at all, brings nothing
+pub Makes-unruled : (b : Before) (node : Node) (outside : Outside) (from : ℕ) (bytes : List ℕ) (m : Message) → message_in bytes ≡ Some m → vote_in m ≡ None → Stands b node outside → Makes b (bytes_begin b node from bytes) act_of.Kept node outside
+Makes-unruled b node outside from bytes m is none h =
+    Makes-silent b node outside from bytes (letter_is from bytes m is ∙ ap (option_map (λ message. record { from = from; message = message })) none) h
+
+pub Makes-unread : (b : Before) (node : Node) (outside : Outside) (from : ℕ) (bytes : List ℕ) → message_in bytes ≡ None → Stands b node outside → Makes b (bytes_begin b node from bytes) act_of.Kept node outside
+Makes-unread b node outside from bytes none h =
+    Makes-silent b node outside from bytes (ap (λ o. option_map (λ message. record { from = from; message = message }) (option_and_then vote_in o)) none) h
+
 pub no_vote : (m : Message) → ((x : PrePrepare) → m ≡ wire.PrePrepare x → ⊥) → ((x : Prepare) → m ≡ wire.Prepare x → ⊥) → ((x : Commit) → m ≡ wire.Commit x → ⊥) → vote_in m ≡ None
 no_vote (wire.PrePrepare x) p q r = absurd (p x refl)
 no_vote (wire.Prepare x) p q r = absurd (q x refl)

@@ -121,6 +121,20 @@ fn signed(seat: &mut SealSeat, statement: &[u8]) -> Result<Sig, NoMemory>
     }
 }
 
+/// The message that bytes spell, if they spell one.
+fn spelled(alloc: Global, bytes: &[u8]) -> Result<Option<Message>, NoMemory>
+    ensures message { IfOk result (λ message. message ≡ message_in bytes.now) }
+    ensures fits { IfOk result (λ message. IfSome message FitsMessage) }
+{
+    match decode(alloc, bytes) {
+        Ok(message) => Ok(Some(message)),
+        Err(ReadFault::NoMemory) => Err(NoMemory),
+        Err(ReadFault::Short(_at)) => Ok(None),
+        Err(ReadFault::BadField(_at)) => Ok(None),
+        Err(ReadFault::Trailing(_at)) => Ok(None),
+    }
+}
+
 impl Node {
     ghost use Rattle.world_run.specs.Entries.{entry_of};
     ghost use Rattle.world_run.specs.Making.{
@@ -276,14 +290,17 @@ impl Node {
         if self.place.height + 1 >= MOST_NUMBER || block.meta.decided >= MOST_NUMBER {
             return Err(NoMemory);
         }
-        self.place.last_meta = block.meta.copy()?;
-        self.place.last_cert = Some(cert.copy()?);
+        let last_meta = block.meta.copy()?;
+        let last_cert = cert.copy()?;
+        let last = block_hash(&block.header);
         let proof = Proof::Bft(cert);
         put_block(&mut outside.text, outside.number, self.id, &block, &proof)?;
         settle(&mut self.pool, block.requests.as_slice());
-        self.place.height += 1;
-        self.place.last = block_hash(&block.header);
         self.ledger.push((block, proof))?;
+        self.place.height += 1;
+        self.place.last = last;
+        self.place.last_meta = last_meta;
+        self.place.last_cert = Some(last_cert);
         self.view.go_to(&self.place);
         Ok(())
     }
@@ -416,10 +433,10 @@ impl Node {
         ensures makes { IfOk result (λ told. (b : Before) → Stands b self.old outside.now → Makes b (begins core_ways (keys_before b) (core_of self.old) (FromMember from bytes.now)) told self.new outside.now) }
         ensures due { IfOk result (λ told. (b : Before) → Stands b self.old outside.now → IsDue b (begins core_ways (keys_before b) (core_of self.old) (FromMember from bytes.now)) told) }
     {
-        match decode(outside.alloc, bytes) {
-            Ok(message) => self.hears(from, message, outside),
-            Err(ReadFault::NoMemory) => Err(NoMemory),
-            Err(_) => self.told(outside),
+        let message = spelled(outside.alloc, bytes)?;
+        match message {
+            Some(message) => self.hears(from, message, outside),
+            None => self.told(outside),
         }
     }
 

@@ -329,7 +329,7 @@ impl World {
         let text = &mut self.outside.text;
         match self.nodes[place].stored(number) {
             None => put_refused(text, line, "no block")?,
-            Some((block, proof)) => put_show(text, line, id, block, proof)?,
+            Some(stored) => put_show(text, line, id, &stored.0, &stored.1)?,
         }
         Ok(())
     }

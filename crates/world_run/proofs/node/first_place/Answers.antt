@@ -8,4 +8,4 @@ returns-clause-place c = rw (c.block_hash.ensures, c.in_ok-copy-2.ensures, c.req
 
 pub returns-clause-standing : goal.returns-clause-standing
 unfolding genesis_block
-returns-clause-standing c = rw (c.in_ok-copy-2.ensures, c.requires.genesis, c.in_ok-copy.ensures) (record { some = c.requires.config.some_member; few = c.requires.config.members.count; behind = omega arith; height = omega arith; decided = omega arith; cert = tt })
+returns-clause-standing c = rw (c.in_ok-copy-2.ensures, c.requires.genesis, c.in_ok-copy.ensures) (record { some = c.requires.config.some_member; few = c.requires.config.members.count; behind = omega arith; height = omega arith; decided = omega arith; cert = λ cert is. absurd (cc) })

@@ -16,6 +16,7 @@ returns-in-Accept-clause-due c =
 
 pub returns-in_default : goal.returns-in_default
 returns-in_default c = record {
+  fits = c.requires;
   makes = λ b m h d. subst (λ (x : Making Core). Makes b x c.args.told c.args.self.now c.args.outside.now) (sym (accepted_in-none b m c.args.told c.in_default.not-Accept d)) h;
   due = λ b m h d. subst (λ (x : Making Core). IsDue b x c.args.told) (sym (accepted_in-none b m c.args.told c.in_default.not-Accept d)) d;
 }

@@ -16,6 +16,7 @@ returns-in-Prepare-clause-due c =
 
 pub returns-in_default : goal.returns-in_default
 returns-in_default c = record {
+  fits = c.requires;
   makes = λ b m h d n. subst (λ (x : Making Core). Makes b x c.args.told c.args.self.now c.args.outside.now) (sym (prepared_in-none b m c.args.told c.in_default.not-Prepare d n).0) h;
   due = λ b m h d n.
       let none = prepared_in-none b m c.args.told c.in_default.not-Prepare d n in
