@@ -32,10 +32,6 @@ ascend_pairs least (x ∷ xs) from all = (
       (λ i j d lt le. all (suc i) (suc j) d (omega arith) (omega arith)),
 )
 
-lower : (a b : ℕ) (xs : List ℕ) → a ≤ b → Ascend b xs → Ascend a xs
-lower a b [] le up = tt
-lower a b (x ∷ xs) le up = let from : b ≤ x = up.0 in (omega arith, up.1)
-
 from_one : (xs : List ℕ) → AllByRecursion (λ x. 1 ≤ x) xs → Ascend 0 xs → Ascend 1 xs
 from_one [] all up = tt
 from_one (x ∷ xs) all up = (all.0, up.1)
