@@ -1,11 +1,11 @@
 -- The laws of messages: what is read is what the bytes spell, what is spelled is read, and more bytes behind a message change nothing but the end.
-use Rattle.std.proofs.Common.{◌≡◌, ℕ, zero, suc, ◌+◌, ◌^◌, ◌<◌, ◌≤◌, Bool, true, false, cond, List, [], ◌∷◌, ◌++◌, length, Option, Some, None, Result, Ok, Err, refl, sym, ap, subst, ◌∙◌, append_assoc, arith}
-use Rattle.std.specs.Prelude.{nat_le, ◌==◌, ◌&&◌, IfOk, IfSome}
+use Rattle.std.proofs.Common.{◌≡◌, ℕ, zero, suc, ◌+◌, ◌^◌, ◌<◌, ◌≤◌, Bool, true, false, cond, List, [], ◌∷◌, ◌++◌, length, Result, Ok, Err, refl, sym, ap, subst, ◌∙◌, append_assoc, arith}
+use Rattle.std.specs.Prelude.{nat_le, ◌==◌, ◌&&◌, IfOk}
 use Rattle.std.specs.Int.{w8, w16, w64, to_be_bytes}
 use Rattle.std.specs.List.{AllByRecursion, flat_map}
 use Rattle.std.proofs.lemmas.Bool.{leb-true, le-leb}
 use Rattle.std.proofs.lemmas.List.{append-nil}
-use Rattle.ord_types.specs.Grammar.{HasBlockSpelling, HasCertSpelling, HasHeaderSpelling, HasReportSpelling, HasRequestSpelling, HasSigSpelling, IsDigest, IsNumber}
+use Rattle.ord_types.specs.Grammar.{HasBlockSpelling, HasCertSpelling, HasHeaderSpelling, HasReportSpelling, HasRequestSpelling, IsNumber}
 use Rattle.ord_types.specs.Reading.{Reading, header_at, tested_at}
 use Rattle.ord_types.specs.Spelling.{block_text, cert_text, header_text, option_text, report_text, request_text, sig_text}
 use Rattle.ord_types.proofs.Laws.{AllFrom, Begins, Ends, IsBytes, Law, SoMany, Spelled, cut, last, many_law, one_spelling, option_law, read_again, read_whole, said_as, spelled, step, tested_law, wide8}

@@ -1,10 +1,8 @@
 -- How a message is read, field by field from the left.
 use Rattle.std.specs.Prelude.{ℕ, zero, suc, ◌+◌, ◌==◌, ◌&&◌, nat_le, Bool, List, [], ◌∷◌, length, Option, Some, None, Result, Ok, Err, if◌then◌else◌}
 use Rattle.std.specs.Int.{w8, w16}
-use Rattle.ord_types.specs.Reading.{◌>>=◌, Reading, below_at, block_at, cert_at, count_at, digest_at, header_at, list_at, number_at, option_at, report_at, request_at, sig_at, sig_from_at, tested_at}
+use Rattle.ord_types.specs.Reading.{◌>>=◌, Reading, below_at, block_at, cert_at, count_at, digest_at, header_at, list_at, option_at, report_at, request_at, sig_at, sig_from_at, tested_at}
 use Rattle.ord_types.specs.Faults.{whole}
-use Rattle.ord_types.specs.declared.fault.Flaw.{Flaw}
-use Rattle.ord_types.specs.declared.fault.Flaw.TheVariants.{Bad}
 use Rattle.ord_types.specs.declared.fault.ReadFault.{ReadFault}
 use Rattle.bft_wire.specs.Spelling.{Message, Signed}
 use Rattle.bft_wire.specs.declared.message.Message.TheVariants as message_of

@@ -1,8 +1,8 @@
 //! Writes the spelling of messages, piece by piece.
 ghost use Rattle.std.specs.Prelude.{◌≡◌, ◌<◌, ◌^◌, length, IfSome};
 ghost use Rattle.std.specs.List.{All, flat_map};
-ghost use Rattle.ord_types.specs.Lengths.{FitsBlock, FitsCert, FitsLast, FitsReport, FitsRequest, FitsSig};
-ghost use Rattle.ord_types.specs.Spelling.{block_text, cert_text, header_text, last_text, option_text, report_text, vote_text};
+ghost use Rattle.ord_types.specs.Lengths.{FitsBlock, FitsCert, FitsRequest, FitsSig};
+ghost use Rattle.ord_types.specs.Spelling.{block_text, cert_text, header_text, option_text};
 ghost use Rattle.bft_wire.specs.Lengths.{FitsBlockReply, FitsMessage, FitsNewView, FitsPrePrepare, FitsSigned, FitsViewData};
 ghost use Rattle.bft_wire.specs.Spelling.{flag_text, message_text, signed_text};
 
@@ -12,49 +12,9 @@ use crate::message::{
     RaftVoteReply, Signed, ViewChange, ViewData,
 };
 use ord_types::{
-    Block, Cert, Header, Last, List, Report, Vote, Writer, write_block, write_cert, write_header,
+    Block, Cert, Header, List, Writer, write_block, write_cert, write_header, write_report,
     write_request, write_sig,
 };
-
-fn write_vote<W: Writer>(writer: &mut W, vote: &Vote)
-    ensures { W.took writer.old writer.new (vote_text vote.now) }
-{
-    writer.put_u64(vote.view);
-    writer.put(&vote.digest);
-}
-
-fn write_last<W: Writer>(writer: &mut W, last: &Last)
-    requires { FitsLast last.now }
-    ensures { W.took writer.old writer.new (last_text last.now) }
-{
-    writer.put(&last.hash);
-    write_cert(writer, &last.cert);
-}
-
-fn write_vote_or_none<W: Writer>(writer: &mut W, vote: &Option<Vote>)
-    ensures { W.took writer.old writer.new (option_text vote_text vote.now) }
-{
-    match vote {
-        None => writer.put_u8(0),
-        Some(vote) => {
-            writer.put_u8(1);
-            write_vote(writer, vote);
-        }
-    }
-}
-
-fn write_last_or_none<W: Writer>(writer: &mut W, last: &Option<Last>)
-    requires { IfSome last.now FitsLast }
-    ensures { W.took writer.old writer.new (option_text last_text last.now) }
-{
-    match last {
-        None => writer.put_u8(0),
-        Some(last) => {
-            writer.put_u8(1);
-            write_last(writer, last);
-        }
-    }
-}
 
 fn write_cert_or_none<W: Writer>(writer: &mut W, cert: &Option<Cert>)
     requires { IfSome cert.now FitsCert }
@@ -80,27 +40,6 @@ fn write_block_or_none<W: Writer>(writer: &mut W, block: &Option<Block>)
             write_block(writer, block);
         }
     }
-}
-
-// Votes, one after the other.
-fn write_votes<W: Writer>(writer: &mut W, votes: &List<Vote>)
-    ensures { W.took writer.old writer.new (flat_map vote_text votes.now) }
-{
-    for vote in votes.as_slice() {
-        write_vote(writer, vote);
-    }
-}
-
-fn write_report<W: Writer>(writer: &mut W, report: &Report)
-    requires { FitsReport report.now }
-    ensures { W.took writer.old writer.new (report_text report.now) }
-{
-    let count = report.accepted.len() as u8;
-    writer.put_u64(report.height);
-    write_last_or_none(writer, &report.last);
-    write_vote_or_none(writer, &report.prepared);
-    writer.put_u8(count);
-    write_votes(writer, &report.accepted);
 }
 
 fn write_signed<W: Writer>(writer: &mut W, signed: &Signed)

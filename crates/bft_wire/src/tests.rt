@@ -6,14 +6,14 @@ ghost use Rattle.bft_wire.specs.Lengths.{FitsMessage, FitsSigned};
 
 use crate::vectors::{BROKEN, VECTORS};
 use crate::{
-    BlockAsk, BlockReply, Commit, Forward, HeaderAsk, HeaderReply, HeartBeat, HeartBeatReply, Message,
-    NewView, PrePrepare, Prepare, RaftAppend, RaftAppendReply, RaftBlock, RaftVote, RaftVoteReply,
-    Signed, ViewChange, ViewData, decode, encode, encode_into, encoded_is_decoded, fronts_are_short,
-    spellings_differ,
+    BlockAsk, BlockReply, Commit, Forward, HeaderAsk, HeaderReply, HeartBeat, HeartBeatReply,
+    Message, NewView, PrePrepare, Prepare, RaftAppend, RaftAppendReply, RaftBlock, RaftVote,
+    RaftVoteReply, Signed, ViewChange, ViewData, decode, encode, encode_into, encoded_is_decoded,
+    fronts_are_short, spellings_differ,
 };
 use ord_types::{
-    Block, Bytes, Cert, Copied, Header, Last, List, Meta, NoMemory, ReadFault, Report, ReqId, ReqKind,
-    Request, Sig, Vote, content_hash, meta_hash,
+    Block, Bytes, Cert, Copied, Header, Last, List, Meta, NoMemory, ReadFault, Report, ReqId,
+    ReqKind, Request, Sig, Vote, content_hash, meta_hash,
 };
 use std::alloc::Global;
 use std::test::Fail;
@@ -123,4 +123,214 @@ fn full_report(alloc: Global) -> Result<Report, NoMemory>
         }),
         accepted,
     })
+}
+
+fn signed_of(alloc: Global, report: Report, signer: u32, first: u8) -> Result<Signed, NoMemory>
+    requires { FitsReport report }
+    ensures { IfOk result FitsSigned }
+{
+    let sig = sig_of(alloc, signer, first)?;
+    Ok(Signed { report, sig })
+}
+
+fn short_report(alloc: Global) -> Report
+    ensures { FitsReport result }
+{
+    Report {
+        height: 21,
+        last: None,
+        prepared: None,
+        accepted: List::new(alloc),
+    }
+}
+
+fn reports_of_two(alloc: Global) -> Result<List<Signed>, NoMemory>
+    ensures count { IfOk result (λ reports. length reports < 2 ^ 8) }
+    ensures reports { IfOk result (All FitsSigned) }
+{
+    let mut reports = List::new(alloc);
+    reports.push(signed_of(alloc, short_report(alloc), 7, 7)?)?;
+    reports.push(signed_of(alloc, full_report(alloc)?, 8, 8)?)?;
+    Ok(reports)
+}
+
+fn headers_of_two(alloc: Global) -> Result<List<Header>, NoMemory>
+    ensures { IfOk result (λ headers. length headers < 2 ^ 16) }
+{
+    let mut headers = List::new(alloc);
+    headers.push(Header {
+        number: 2,
+        previous: [0xe1; 32],
+        content: [0xe2; 32],
+        meta: [0xe3; 32],
+    })?;
+    headers.push(Header {
+        number: 1,
+        previous: [0xe4; 32],
+        content: [0xe5; 32],
+        meta: [0xe6; 32],
+    })?;
+    Ok(headers)
+}
+
+// A message of views, from kind 1 to kind 8.
+fn message_of_views(alloc: Global, kind: usize) -> Result<Message, NoMemory>
+    ensures { IfOk result FitsMessage }
+{
+    Ok(match kind {
+        1 => Message::PrePrepare(PrePrepare {
+            config: 1,
+            view: 2,
+            number: 3,
+            block: block_of_two(alloc)?,
+            cert: Some(cert_of(alloc, 4, 2)?),
+        }),
+        2 => Message::Prepare(Prepare {
+            config: 1,
+            view: 2,
+            number: 3,
+            digest: [0xd6; 32],
+        }),
+        3 => Message::Commit(Commit {
+            config: 1,
+            view: 2,
+            number: 3,
+            digest: [0xd6; 32],
+            sig: sig_of(alloc, 7, 7)?,
+        }),
+        4 => Message::ViewChange(ViewChange {
+            config: 1,
+            target: 2,
+        }),
+        5 => Message::ViewData(ViewData {
+            config: 1,
+            view: 2,
+            report: full_report(alloc)?,
+            sig: sig_of(alloc, 7, 7)?,
+            block: Some(block_of_two(alloc)?),
+        }),
+        6 => Message::NewView(NewView {
+            config: 1,
+            view: 2,
+            reports: reports_of_two(alloc)?,
+            block: None,
+        }),
+        7 => Message::HeartBeat(HeartBeat {
+            config: 1,
+            view: 2,
+            height: 3,
+        }),
+        _ => Message::HeartBeatReply(HeartBeatReply { config: 1, view: 2 }),
+    })
+}
+
+// A message of kind 9 to 13, or of Raft.
+fn message_of_blocks(alloc: Global, kind: usize) -> Result<Message, NoMemory>
+    ensures { IfOk result FitsMessage }
+{
+    Ok(match kind {
+        9 => Message::Forward(Forward {
+            request: request_of_two_bytes(alloc)?,
+        }),
+        10 => Message::BlockAsk(BlockAsk { first: 1, count: 8 }),
+        11 => Message::BlockReply(BlockReply {
+            block: block_of_two(alloc)?,
+            cert: cert_of(alloc, 4, 2)?,
+        }),
+        12 => Message::HeaderAsk(HeaderAsk { number: 1 }),
+        13 => Message::HeaderReply(HeaderReply {
+            headers: headers_of_two(alloc)?,
+        }),
+        14 => Message::RaftVote(RaftVote {
+            term: 1,
+            height: 2,
+            tail_term: 3,
+        }),
+        15 => Message::RaftVoteReply(RaftVoteReply {
+            term: 1,
+            granted: true,
+        }),
+        16 => Message::RaftAppend(RaftAppend {
+            term: 1,
+            height: 2,
+            last: [0xd7; 32],
+            block: Some(block_of_two(alloc)?),
+        }),
+        17 => Message::RaftAppendReply(RaftAppendReply {
+            term: 1,
+            number: 2,
+            digest: [0xd6; 32],
+            taken: false,
+        }),
+        _ => Message::RaftBlock(RaftBlock {
+            block: block_of_two(alloc)?,
+        }),
+    })
+}
+
+#[test]
+fn vectors_of_all_kinds(rt: HostRuntime) -> Result<(), Fail> {
+    for (place, vector) in VECTORS.iter().enumerate() {
+        let message = if place < 8 {
+            message_of_views(rt.alloc(), place + 1)?
+        } else {
+            message_of_blocks(rt.alloc(), place + 1)?
+        };
+        let mut out = Bytes::new(rt.alloc());
+        encode(&message, &mut out)?;
+        assert_eq!(rt; out.as_slice(), *vector, "kind {}", place + 1);
+        out.clear();
+        encode(&message.copy()?, &mut out)?;
+        assert_eq!(rt; out.as_slice(), *vector, "the copy of kind {}", place + 1);
+        out.clear();
+        encode(&decode(rt.alloc(), vector)?, &mut out)?;
+        assert_eq!(rt; out.as_slice(), *vector, "decoded kind {}", place + 1);
+        let mut buffer = [7; 2000];
+        assert_eq!(rt; encode_into(&message, &mut buffer), Some(vector.len()));
+        assert_eq!(rt; buffer.get(..vector.len()), Some(*vector));
+        assert_eq!(rt; buffer.get(vector.len()), Some(&7));
+    }
+    Ok(())
+}
+
+#[test]
+fn too_short_a_buffer(rt: HostRuntime) {
+    let message = Message::HeaderAsk(HeaderAsk { number: 1 });
+    let mut buffer = [7; 8];
+    assert_eq!(rt; encode_into(&message, &mut buffer), None);
+    assert_eq!(rt; buffer, [7; 8]);
+    encoded_is_decoded();
+    spellings_differ();
+    fronts_are_short();
+}
+
+#[test]
+fn cut_and_trailing(rt: HostRuntime) -> Result<(), Fail> {
+    for vector in VECTORS {
+        for cut in 0..vector.len() {
+            let read = decode(rt.alloc(), &vector[..cut]);
+            assert_eq!(rt; read.err(), Some(ReadFault::Short(cut)));
+        }
+        let mut longer = Bytes::from_slice(rt.alloc(), vector)?;
+        longer.push(0)?;
+        let read = decode(rt.alloc(), longer.as_slice());
+        assert_eq!(rt; read.err(), Some(ReadFault::Trailing(vector.len())));
+    }
+    Ok(())
+}
+
+#[test]
+fn broken_fields(rt: HostRuntime) -> Result<(), Fail> {
+    for (vector, at, byte, place) in BROKEN {
+        let message = VECTORS.get(vector).copied().ok_or("a vector")?;
+        let mut bytes = message.to_vec(rt.alloc())?;
+        *bytes.get_mut(at).ok_or("a byte")? = byte;
+        let read = decode(rt.alloc(), bytes.as_slice());
+        assert_eq!(rt;
+            read.err(),
+            Some(ReadFault::BadField(place)),
+            "vector {vector} at {at}"
+        );
+    }
+    Ok(())
 }

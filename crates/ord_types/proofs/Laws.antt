@@ -1,24 +1,22 @@
 -- Laws of readings: what is read is what the text spells, what is spelled is read, and more bytes behind change nothing but the end.
-use Rattle.std.proofs.Common.{◌≡◌, ℕ, zero, suc, ◌+◌, ◌^◌, ◌<◌, ◌≤◌, Bool, true, false, cond, ltb, List, [], ◌∷◌, ◌++◌, length, get_or, take, drop, Option, Some, None, Result, Ok, Err, refl, sym, ap, subst, ◌∙◌, append_assoc, arith, inl, inr}
+use Rattle.std.proofs.Common.{◌≡◌, ℕ, zero, suc, ◌+◌, ◌^◌, ◌<◌, ◌≤◌, Bool, true, false, cond, ltb, List, [], ◌∷◌, ◌++◌, length, take, drop, Option, Some, None, Result, Ok, Err, refl, sym, ap, subst, ◌∙◌, append_assoc, arith, inl, inr}
 use Rattle.std.specs.Int.{Width, w8, w16, w32, w64, byte_len, from_be_bytes, to_be_bytes}
 use Rattle.std.specs.List.{AllByRecursion, flat_map}
-use Rattle.std.proofs.lemmas.Bool.{cases_lt, ltb-false, le-ltb, leb-true, le-leb}
-use Rattle.std.proofs.lemmas.List.{append-nil, take_at, drop_at, take-append-drop, take-append-le, drop-append-le, length-append, length-take, get_or-drop, get_or-take, get_or_past}
+use Rattle.std.proofs.lemmas.Bool.{cases_lt, ltb-false, le-ltb, lt-ltb, leb-true, le-leb}
+use Rattle.std.proofs.lemmas.List.{append-nil, take_at, drop_at, take-append-drop, take-append-le, drop-append-le, length-append, length-take, get_or-drop, get_or-take, get_or_past, nil_from_length}
 use Rattle.std.proofs.lemmas.List.Concat.{flat_map-cons}
 use Rattle.std.proofs.Math.Nat.{mod-eq_of_lt}
 use Rattle.std.proofs.lemmas.Nat.{be_bytes_2, be_bytes_4, be_bytes_8, from_be_bytes-to_be_bytes_2, from_be_bytes-to_be_bytes_4, from_be_bytes-to_be_bytes_8}
 use Rattle.std.specs.Prelude.{nat_le, ◌==◌, IfSome}
 use Rattle.ord_types.specs.Reading.{◌>>=◌, Reading, bytes_at, meant, meant_at, number_at, option_at, tested_at}
 use Rattle.ord_types.specs.Spelling.{option_text}
+pub use Rattle.ord_types.specs.Laws.{IsBytes}
+use Rattle.ord_types.specs.Laws.{HasOneSpelling}
 use Rattle.ord_types.specs.declared.fault.Flaw.{Flaw}
 use Rattle.ord_types.specs.declared.fault.Flaw.TheVariants.{Short, Bad}
 use Rattle.ord_types.proofs.Loops.{IsLoop}
 
 -- BYTES
-
--- each is a byte
-abbrev pub IsBytes : List ℕ → Type 0
-IsBytes bytes = (i : ℕ) → get_or bytes i 0 < 256
 
 pub IsBytes-drop : (n : ℕ) (bytes : List ℕ) → IsBytes bytes → IsBytes (drop n bytes)
 IsBytes-drop n bytes h i = rw get_or-drop (h (n + i))
@@ -87,6 +85,7 @@ pub record Law {X : Type 0} (at : Reading X) (Means : X → List ℕ → Type 0)
   pub steady_ok : (bytes : List ℕ) (x : X) (rest more : List ℕ) → at bytes ≡ Ok (x, rest) → at (bytes ++ more) ≡ Ok (x, rest ++ more)
   pub steady_bad : (bytes : List ℕ) (left : ℕ) (more : List ℕ) → at bytes ≡ Err (Bad left) → at (bytes ++ more) ≡ Err (Bad (left + length more))
   pub inside : (bytes : List ℕ) (left : ℕ) → IsBytes bytes → at bytes ≡ Err (Bad left) → left ≤ length bytes
+  pub before : (front back : List ℕ) → IsBytes (front ++ back) → at (front ++ back) ≡ Err (Bad (length back)) → at front ≡ Err Short
 
 -- the same reading, meant otherwise
 pub said_as : {X : Type 0} {at : Reading X} {Means Other : X → List ℕ → Type 0} → ((x : X) (t : List ℕ) → Means x t → Other x t) → ((x : X) (t : List ℕ) → Other x t → Means x t) → Law at Means → Law at Other
@@ -97,6 +96,7 @@ said_as to from law =
       steady_ok = law.steady_ok;
       steady_bad = law.steady_bad;
       inside = law.inside;
+      before = law.before;
     }
 
 -- another reading that gives the same
@@ -108,9 +108,20 @@ same_reading same law =
       steady_ok = λ bytes x rest more e. sym (same (bytes ++ more)) ∙ law.steady_ok bytes x rest more (same bytes ∙ e);
       steady_bad = λ bytes left more e. sym (same (bytes ++ more)) ∙ law.steady_bad bytes left more (same bytes ∙ e);
       inside = λ bytes left fits e. law.inside bytes left fits (same bytes ∙ e);
+      before = λ front back fits e. sym (same front) ∙ law.before front back fits (same (front ++ back) ∙ e);
     }
 
 -- ONE AFTER THE OTHER
+
+-- where the second rest begins no later than the first, it holds that
+begins_earlier : (front back text rest : List ℕ) → front ++ back ≡ text ++ rest → length back ≤ length rest → (middle : List ℕ) × (front ≡ text ++ middle) × (rest ≡ middle ++ back)
+begins_earlier front back [] rest e le = (front, refl, sym e)
+begins_earlier [] back (b ∷ text) rest e le = absurd (omega (arith, ap length e, length-append text rest))
+begins_earlier (a ∷ front) back (b ∷ text) rest e le =
+    let heads : a ≡ b = cc in
+    let tails : front ++ back ≡ text ++ rest = cc in
+    let c = begins_earlier front back text rest tails le in
+    (c.0, ap (λ n. n ∷ front) heads ∙ ap (λ t. b ∷ t) c.1, c.2)
 
 bind_ok : {A B : Type 0} (r : Result A Flaw) (f : A → Result B Flaw) (y : B) → (r >>= f) ≡ Ok y → (x : A) × (r ≡ Ok x) × (f x ≡ Ok y)
 bind_ok (Ok x) f y e = (x, refl, e)
@@ -167,6 +178,17 @@ step {A} {Y} {at} {May} {text} {after} {More} law laws =
                 let le = (laws x.0).inside x.1 left (IsBytes-rest f.text x.1 (subst IsBytes f.parts fits)) k in
                 omega (arith, ap length f.parts, length-append f.text x.1)
           ];
+      before = λ front back fits e.
+          elim (bind_bad (at (front ++ back)) (λ r. after r.0 r.1) (length back) e) [
+            | Ended.at_first h ↦ rw (law.before front back fits h) refl
+            | Ended.at_second x h k ↦
+                let f = law.sound (front ++ back) x.0 x.1 fits h in
+                let rest-fits = IsBytes-rest f.text x.1 (subst IsBytes f.parts fits) in
+                let c = begins_earlier front back f.text x.1 f.parts ((laws x.0).inside x.1 (length back) rest-fits k) in
+                let first : at front ≡ Ok (x.0, c.0) = ap at c.1 ∙ law.complete x.0 f.text c.0 f.means in
+                let second = (laws x.0).before c.0 back (subst IsBytes c.2 rest-fits) (ap (after x.0) (sym c.2) ∙ k) in
+                rw first second
+          ];
     }
 
 pub last : {A Y : Type 0} {at : Reading A} {May : A → Type 0} {text : A → List ℕ} (made : A → Y) → Law at (Spelled May text) → Law (λ bytes. at bytes >>= λ r. Ok (made r.0, r.1)) (Ends May text made)
@@ -198,12 +220,18 @@ last {A} {Y} {at} {May} {text} made law =
             | Ended.at_first h ↦ law.inside bytes left fits h
             | Ended.at_second x h k ↦ absurd cc
           ];
+      before = λ front back fits e.
+          elim (bind_bad (at (front ++ back)) (λ r. Ok (made r.0, r.1)) (length back) e) [
+            | Ended.at_first h ↦ rw (law.before front back fits h) refl
+            | Ended.at_second x h k ↦ absurd cc
+          ];
     }
 
 -- NUMBERS AND BYTES
 
 -- numbers below the limit and the bytes of this width tell each other
 pub record IsWide (w : Width) (limit : ℕ) : Type 0 where
+  pub wide : 1 ≤ byte_len w
   pub len : (n : ℕ) → length (to_be_bytes w n) ≡ byte_len w
   pub back : (bytes : List ℕ) → length bytes ≡ byte_len w → IsBytes bytes → to_be_bytes w (from_be_bytes w bytes) ≡ bytes
   pub again : (n : ℕ) → n < limit → from_be_bytes w (to_be_bytes w n) ≡ n
@@ -217,6 +245,7 @@ of_one (b ∷ c ∷ bytes) len fits = absurd (omega arith)
 
 pub wide8 : IsWide w8 (2 ^ 8)
 wide8 = record {
+  wide = omega arith;
   len = λ n. refl;
   back = of_one;
   again = λ n lt. omega arith;
@@ -226,6 +255,7 @@ wide8 = record {
 
 pub wide16 : IsWide w16 (2 ^ 16)
 wide16 = record {
+  wide = omega arith;
   len = λ n. refl;
   back = λ bytes len fits. be_bytes_2 bytes _ len fits refl;
   again = from_be_bytes-to_be_bytes_2;
@@ -235,6 +265,7 @@ wide16 = record {
 
 pub wide32 : IsWide w32 (2 ^ 32)
 wide32 = record {
+  wide = omega arith;
   len = λ n. refl;
   back = λ bytes len fits. be_bytes_4 bytes _ len fits refl;
   again = from_be_bytes-to_be_bytes_4;
@@ -244,6 +275,7 @@ wide32 = record {
 
 pub wide64 : IsWide w64 (2 ^ 64)
 wide64 = record {
+  wide = omega arith;
   len = λ n. refl;
   back = λ bytes len fits. be_bytes_8 bytes _ len fits refl;
   again = from_be_bytes-to_be_bytes_8;
@@ -292,6 +324,7 @@ made_law n made May text told taken =
           rw (long, take-append-le n bytes more h.0, drop-append-le n bytes more h.0, h.1, h.2) refl;
       steady_bad = λ bytes left more e. never_bad (ltb (length bytes) n) (pair (made (take n bytes)) (drop n bytes)) left e;
       inside = λ bytes left fits e. never_bad (ltb (length bytes) n) (pair (made (take n bytes)) (drop n bytes)) left e;
+      before = λ front back fits e. never_bad (ltb (length (front ++ back)) n) (pair (made (take n (front ++ back))) (drop n (front ++ back))) (length back) e;
     }
 
 pub number_law : {w : Width} {limit : ℕ} → IsWide w limit → Law (number_at w) (Spelled (λ n. n < limit) (to_be_bytes w))
@@ -303,6 +336,9 @@ pub bytes_law : (n : ℕ) → Law (bytes_at n) (Spelled (λ bytes. length bytes 
 bytes_law n = made_law n (λ bytes. bytes) (λ bytes. length bytes ≡ n) (λ bytes. bytes) (λ bytes fits len. (len, refl)) (λ bytes len. (len, refl))
 
 -- NUMBERS THAT MEAN SOMETHING
+
+nothing_short : {w : Width} {limit : ℕ} → IsWide w limit → number_at w [] ≡ Err Short
+nothing_short {w} wide = rw (lt-ltb 0 (byte_len w) wide.wide) refl
 
 meant_ok : {X : Type 0} (left : ℕ) (o : Option X) (rest : List ℕ) (x : X) (r : List ℕ) → meant left o rest ≡ Ok (x, r) → (o ≡ Some x) × (rest ≡ r)
 meant_ok left None rest x r e = absurd cc
@@ -347,6 +383,14 @@ meant_law {X} {w} {limit} wide means May number told taken =
           elim (bind_bad (number_at w bytes) (λ n. meant (length bytes) (means n.0) n.1) left e) [
             | Ended.at_first h ↦ law.inside bytes left fits h
             | Ended.at_second n h k ↦ let m = meant_bad (length bytes) (means n.0) n.1 left k in omega (arith, m.1)
+          ];
+      before = λ front back fits e.
+          elim (bind_bad (number_at w (front ++ back)) (λ n. meant (length (front ++ back)) (means n.0) n.1) (length back) e) [
+            | Ended.at_first h ↦ rw (law.before front back fits h) refl
+            | Ended.at_second n h k ↦
+                let m = meant_bad (length (front ++ back)) (means n.0) n.1 (length back) k in
+                let none : front ≡ [] = nil_from_length front (omega (arith, m.1, length-append front back)) in
+                rw (none, nothing_short wide) refl
           ];
     }
 
@@ -394,6 +438,7 @@ nothing made =
       steady_ok = λ bytes y rest more e. let p = ok_parts made y bytes rest e in rw (p.0, p.1) refl;
       steady_bad = λ bytes left more e. absurd cc;
       inside = λ bytes left fits e. absurd cc;
+      before = λ front back fits e. absurd cc;
     }
 
 abbrev pub SoMany : {S X : Type 0} → (S → X → Type 0) → (S → X → S) → S → ℕ → List X → Type 0
@@ -502,3 +547,14 @@ module _ {X : Type 0} {at : Reading X} {May : X → Type 0} {text : X → List �
   -- a spelling that is cut ends inside the value
   pub cut : (x : X) (front behind : List ℕ) (b : ℕ) → May x → text x ≡ front ++ b ∷ behind → at front ≡ Err Short
   cut x front behind b may e = ended_short x front behind b (at front) may e refl
+
+  pub has_one_spelling : HasOneSpelling at May text
+  has_one_spelling =
+      record {
+        again = read_again;
+        spelled = spelled;
+        alone = λ x y rest may may' e. one_spelling x y rest [] may may' (e ∙ sym (append-nil (text y)));
+        cut = cut;
+        broken = law.steady_bad;
+        before = law.before;
+      }

@@ -4,6 +4,7 @@ pub mod Genesis
 pub mod Grammar
 pub mod Growth
 pub mod Hashes
+pub mod Laws
 pub mod Lengths
 pub mod Members
 pub mod Reading

@@ -9,11 +9,14 @@ mod lists;
 mod members;
 mod memory;
 mod outside;
+#[cfg(test)]
+mod read_tests;
 mod reader;
 mod reading;
 mod spelling;
 #[cfg(test)]
 mod tests;
+mod uniqueness;
 mod values;
 mod whole;
 mod writing;
@@ -34,6 +37,7 @@ pub use spelling::{
     put_block, put_cert, put_config, put_header, put_meta, put_report, put_request, put_requests,
     put_sig,
 };
+pub use uniqueness::spellings_are_unique;
 pub use values::{
     Batch, Block, Cert, Choice, Config, Digest, Header, Kind, Last, Meta, Mode, Place, Proof,
     Report, ReqId, ReqKind, Request, Sig, Vote,

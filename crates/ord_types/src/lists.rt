@@ -56,6 +56,15 @@ impl<T> List<T> {
         }
     }
 
+    /// An empty list with room for so many values.
+    pub fn with_capacity(alloc: Global, count: usize) -> Result<Self, NoMemory>
+        ensures { IfOk result (λ list. list ≡ []) }
+    {
+        Ok(List {
+            items: Vec::with_capacity(alloc, count)?,
+        })
+    }
+
     /// How many values it has.
     pub fn len(&self) -> usize
         ensures { result ≡ length self.now }

@@ -226,7 +226,7 @@ impl<'a> Reader<'a> {
     fn so_many_requests(&mut self, alloc: Global, count: u32) -> Result<List<Request>, Halt>
         ensures { Reads result self.new (list_at request_at count self.old) }
     {
-        let mut requests = List::new(alloc);
+        let mut requests = List::with_capacity(alloc, count as usize)?;
         for _ in 0..count {
             requests.push(self.request(alloc)?)?;
         }

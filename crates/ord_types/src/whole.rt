@@ -1,4 +1,5 @@
-//! Reads values that stand at a place of bytes, or are all of them.
+//! Reads values that stand at a place of bytes, or are all of them. A place behind the bytes is their end, where
+//! every value is `Short`.
 ghost use Rattle.std.specs.Prelude.{◌≡◌, ℕ, drop, length, IfOk, Result as Outcome};
 ghost use Rattle.std.specs.Prelude.{List as Items};
 ghost use Rattle.ord_types.specs.Faults.{

@@ -16,7 +16,7 @@ use Rattle.node_model.specs.Acts.{View, due, preparation_due, prepare_act}
 use Rattle.node_model.specs.Letters.{config_in, number_in, view_in}
 use Rattle.ord_types.specs.Members.{is_in, is_raft}
 use Rattle.node_model.specs.Answers.{Reasons, accepts_nothing, act_or, after_act, after_told, first_reason, is_new, is_repeat, is_signed, keep, kept_after, kept_or, message_reasons, prepare_answer, proposal_reasons, reason_or, stands_outside, vote_answer}
-use Rattle.view_core.specs.Held.{is_held}
+use Rattle.view_core.specs.Held.{is_held, is_short}
 use Rattle.view_core.specs.Places.{StandsAt}
 
 pub first_reason_append : (rs ss : Reasons) → first_reason rs ≡ None → first_reason (rs ++ ss) ≡ first_reason ss
@@ -56,14 +56,14 @@ near_from height n low high =
     ]
 
 -- a message that isn't from outside may be held by a view that stands at the place
-pub inside_is_held : (place : Place) (w : View) (letter : Letter) → StandsAt place w → first_reason (stands_outside place w letter) ≡ None → is_held w.config w.members w.view w.height letter ≡ true
-inside_is_held place w letter stands inside =
+pub inside_is_held : (place : Place) (w : View) (letter : Letter) → StandsAt place w → is_short letter.message ≡ true → first_reason (stands_outside place w letter) ≡ None → is_held w.config w.members w.view w.height letter ≡ true
+inside_is_held place w letter stands short inside =
     let all = all_hold (stands_outside place w letter) inside in
     let among = not-false (is_in letter.from place.config.members) all.0 in
     let config = not-false (config_in letter.message == place.config.number) (or_parts (is_raft place.config) _ all.1.0).1 in
     let view = not-false (view_in letter.message == w.view) all.1.1.0 in
     let near = near_from place.height (number_in letter.message) (ltb-false _ _ all.1.1.1.1.0) (ltb-false _ _ all.1.1.1.1.1.0) in
-    rw (stands.config, stands.members, stands.height) (and_from _ _ (and_from _ _ (and_from _ _ among config) view) near)
+    rw (stands.config, stands.members, stands.height) (and_from _ _ (and_from _ _ (and_from _ _ (and_from _ _ short among) config) view) near)
 
 -- what a message that is newly kept is
 pub record IsNew (accepts : Accepts) (place : Place) (w : View) (letter : Letter) : Type 0 where

@@ -13,7 +13,7 @@ use Rattle.node_model.specs.Letters.{kind_of, number_in, config_in, view_in, sam
 use Rattle.node_model.specs.declared.letter.VoteMessage.{VoteMessage}
 use Rattle.node_model.specs.declared.letter.VoteMessage.TheVariants as message_of
 use Rattle.node_model.specs.Answers.{is_near}
-use Rattle.view_core.specs.Held.{IsHeld, is_held}
+use Rattle.view_core.specs.Held.{IsHeld, is_held, is_short}
 
 same_slot_equiv : IsEquivalence same_slot
 same_slot_equiv = record { refl = λ x. grind (arith, nat_tests); symm = λ x y. grind (arith, nat_tests); congr = λ x y z h. grind (arith, nat_tests) }
@@ -66,9 +66,10 @@ near config members view height letter h =
     let three = and_parts _ _ h in
     let two = and_parts _ _ three.0 in
     let one = and_parts _ _ two.0 in
+    let short = and_parts (is_short letter.message) (is_in letter.from members) one.0 in
     let number : (number_in letter.message ≡ height) ⊎ (number_in letter.message ≡ height + 1) = grind (arith, nat_tests, three.1) in
     record {
-      among = one.0;
+      among = short.1;
       same_config = eqb-true _ _ one.1;
       same_view = eqb-true _ _ two.1;
       above = elim number [ inl e ↦ omega arith | inr e ↦ omega arith ];

@@ -12,16 +12,16 @@ ghost use Rattle.node_model.specs.Leading.{is_at_start, meta_eq, next_meta, turn
 ghost use Rattle.view_core.specs.Places.{IsPlace};
 
 use bft_wire::PrePrepare;
+use chan_config::refusal;
 use ord_types::{Block, Cert, Meta, Place};
-use safety_model::is_next;
 use signer_edge::{Verifier, check_cert};
 
 /// Whether the block may come next at the place.
+#[tactic(auto, using(chan_config::proofs::BlockLaws::none_refused))]
 pub(crate) fn is_next_block(place: &Place, block: &Block) -> bool
-    requires { IsPlace place.now }
     ensures { result ≡ is_next_block place.now block.now }
 {
-    is_next(&place.last, place.height - 1, &place.config, block)
+    refusal(&place.last, place.height, &place.config, block).is_none()
 }
 
 /// Whether nothing was ordered under the configuration yet.

@@ -30,7 +30,9 @@ ghost use Rattle.node_model.specs.Answers.{
   stands_outside,
   vote_answer,
 };
-ghost use Rattle.view_core.specs.Held.{is_held};
+ghost use Rattle.ord_types.specs.Lengths.{FitsSig};
+ghost use Rattle.view_core.specs.Fits.{FitsAct};
+ghost use Rattle.view_core.specs.Held.{is_held, is_short};
 ghost use Rattle.view_core.specs.Places.{IsPlace, StandsAt, turn_reasons};
 
 use crate::blocks::{is_block_of_view, is_carried_good};
@@ -199,6 +201,7 @@ impl ViewState {
     ) -> Result<Act, NoMemory>
         requires place { IsPlace place.now }
         requires stands { StandsAt place.now self.old }
+        requires short { IsTrue (is_short letter.message) }
         ensures answer { IfOk result (λ act. act ≡ vote_answer (V.accepts verifier.now) place.now self.old letter) }
         ensures after { IfOk result (λ act. self.new ≡ after_act act (kept_after (V.accepts verifier.now) place.now self.old letter)) }
         ensures err { OnErr result (self.new ≡ self.old) }
@@ -217,8 +220,10 @@ impl ViewState {
         letter: Letter,
         verifier: &V,
     ) -> Result<Act, NoMemory>
-        requires { IsPlace place.now }
+        requires place { IsPlace place.now }
+        requires short { IsTrue (is_short letter.message) }
         ensures answer { IfOk result (λ act. act ≡ vote_answer (V.accepts verifier.now) place.now (at_place place.now self.old) letter) }
+        ensures fits { IfOk result FitsAct }
         ensures after { OnOk result (self.new ≡ after_vote (V.accepts verifier.now) place.now self.old letter) }
         ensures err { OnErr result (self.new ≡ at_place place.now self.old) }
     {
@@ -237,6 +242,7 @@ impl ViewState {
     ) -> Result<Act, NoMemory>
         requires { IsPlace place.now }
         ensures answer { IfOk result (λ act. act ≡ vote_answer (V.accepts verifier.now) place.now (at_place place.now self.old) (record { from = from; message = message_of.PrePrepare message })) }
+        ensures fits { IfOk result FitsAct }
         ensures after { OnOk result (self.new ≡ after_vote (V.accepts verifier.now) place.now self.old (record { from = from; message = message_of.PrePrepare message })) }
         ensures err { OnErr result (self.new ≡ at_place place.now self.old) }
     {
@@ -253,8 +259,10 @@ impl ViewState {
         message: Commit,
         verifier: &V,
     ) -> Result<Act, NoMemory>
-        requires { IsPlace place.now }
+        requires place { IsPlace place.now }
+        requires sig { FitsSig message.sig }
         ensures answer { IfOk result (λ act. act ≡ vote_answer (V.accepts verifier.now) place.now (at_place place.now self.old) (record { from = from; message = message_of.Commit message })) }
+        ensures fits { IfOk result FitsAct }
         ensures after { OnOk result (self.new ≡ after_vote (V.accepts verifier.now) place.now self.old (record { from = from; message = message_of.Commit message })) }
         ensures err { OnErr result (self.new ≡ at_place place.now self.old) }
     {
@@ -301,6 +309,7 @@ impl ViewState {
     pub fn on_prepare(&mut self, place: &Place, from: u32, message: &Prepare) -> Act
         requires { IsPlace place.now }
         ensures answer { result ≡ prepare_answer place.now (at_place place.now self.old) (record { from = from; message = message_of.Prepare message.now }) }
+        ensures fits { FitsAct result }
         ensures after { self.new ≡ after_prepare place.now self.old (record { from = from; message = message_of.Prepare message.now }) }
     {
         self.settle(place);
@@ -372,6 +381,7 @@ impl ViewState {
     ) -> Result<Act, NoMemory>
         requires { IsPlace place.now }
         ensures answer { IfOk result (λ act. act ≡ propose_answer place.now (at_place place.now self.old) offer) }
+        ensures fits { IfOk result FitsAct }
         ensures after { OnOk result (self.new ≡ after_propose place.now self.old offer) }
         ensures err { OnErr result (self.new ≡ at_place place.now self.old) }
     {
@@ -384,6 +394,7 @@ impl ViewState {
     pub fn due<V: Verifier>(&mut self, place: &Place, verifier: &V) -> Result<Act, NoMemory>
         requires { IsPlace place.now }
         ensures answer { IfOk result (λ act. act ≡ due_answer (V.accepts verifier.now) place.now (at_place place.now self.old)) }
+        ensures fits { IfOk result FitsAct }
         ensures after { OnOk result (self.new ≡ after_due (V.accepts verifier.now) place.now self.old) }
         ensures err { OnErr result (self.new ≡ at_place place.now self.old) }
     {

@@ -1,9 +1,10 @@
 //! What is due in a view, and where the view stands.
-ghost use Rattle.std.specs.Prelude.{◌≡◌, ◌≤◌, ◌&&◌, IfOk, length, nat_le, vec_capacity};
+ghost use Rattle.std.specs.Prelude.{◌≡◌, ◌≤◌, ◌&&◌, IfOk, length, nat_le, vec_capacity, IsTrue};
 ghost use Rattle.node_model.specs.Leading.{leader};
 ghost use Rattle.node_model.specs.Acts.{acceptance_due, commits, delivery_due, is_inside_view, is_voting, preparation_due, quorum_of};
 ghost use Rattle.node_model.specs.Checks.{is_next_block};
 ghost use Rattle.node_model.specs.Answers.{at_place, fresh, raised};
+ghost use Rattle.view_core.specs.Held.{are_short};
 ghost use Rattle.view_core.specs.Places.{IsPlace, StandsAt};
 
 use crate::blocks::{is_acceptable, is_next_block};
@@ -39,6 +40,7 @@ impl ViewState {
     pub(crate) fn settle(&mut self, place: &Place)
         requires { IsPlace place.now }
         ensures at { self.new ≡ at_place place.now self.old }
+        ensures short { IsTrue (are_short self.old.kept) }
         ensures stands { StandsAt place.now self.new }
     {
         if self.config == place.config.number

@@ -6,10 +6,10 @@ ghost use Rattle.node_model.specs.Leading.{next_meta};
 ghost use Rattle.view_core.specs.Places.{IsPlace};
 
 use crate::blocks::{is_at_start, is_next_block, turn};
+use chan_config::{has_room, have_room};
 use ord_types::{
     Block, Cert, Header, List, Meta, NoMemory, Place, Request, content_hash, meta_hash,
 };
-use safety_model::{has_room, have_room};
 use std::alloc::Global;
 
 /// Who signed the certificate, in order.

@@ -1,5 +1,6 @@
 //! Each call once with ample memory.
 ghost use Rattle.std.specs.Prelude.{◌≤◌, length, true};
+ghost use Rattle.ord_types.specs.Lengths.{FitsSig};
 ghost use Rattle.view_core.specs.Places.{IsPlace};
 
 use crate::held::ViewState;
@@ -72,7 +73,9 @@ fn offer(alloc: Global) -> Result<List<Request>, NoMemory> {
     Ok(offer)
 }
 
-fn commit(alloc: Global, signer: u32, digest: Digest) -> Commit {
+fn commit(alloc: Global, signer: u32, digest: Digest) -> Commit
+    ensures { FitsSig result.sig }
+{
     Commit {
         config: 0,
         view: 0,

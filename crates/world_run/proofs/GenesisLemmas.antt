@@ -1,8 +1,8 @@
 -- The members of a genesis make a configuration that a chain can begin with.
-use Rattle.std.proofs.Common.{◌≤◌, ℕ, List, refl, lit≤}
-use Rattle.std.proofs.lemmas.List.Elements.{All-weaker}
+use Rattle.std.proofs.Common.{ℕ, List, refl, lit≤}
 use Rattle.ord_types.specs.Genesis.{IsGenesisConfig}
-use Rattle.script.specs.Commands.{AreIds, IsId}
+use Rattle.script.specs.Commands.{AreIds}
+use Rattle.script.proofs.IdLemmas.{ids_spelled}
 use Rattle.world_model.specs.Turns.{first_config}
 
 pub genesis_from_ids : (members : List ℕ) → AreIds members → IsGenesisConfig (first_config members)
@@ -19,9 +19,5 @@ genesis_from_ids members ids = record {
     small_rotation = lit≤ tt;
   };
   some_member = ids.some;
-  members = record {
-    count = ids.few;
-    ascending = ids.ascending;
-    positive = All-weaker IsId (λ (id : ℕ). 1 ≤ id) (λ id is. is.positive) members ids.each;
-  };
+  members = ids_spelled members ids;
 }

@@ -2,7 +2,7 @@
 use Rattle.std.proofs.Common.{◌≡◌, ℕ, List, [], Option, Some, None, refl, sym, ap, subst, ◌∙◌}
 use Rattle.ord_types.specs.declared.values.Cert.{Cert}
 use Rattle.safety_model.specs.Blocks.{Block}
-use Rattle.bft_wire.specs.declared.message.Message.TheVariants as message_of
+use Rattle.node_model.specs.declared.letter.VoteMessage.TheVariants as message_of
 use Rattle.node_model.specs.declared.letter.Letter.{Letter}
 use Rattle.node_model.specs.declared.act.Act.{Act}
 use Rattle.node_model.specs.declared.act.Act.TheVariants as act_of
@@ -117,7 +117,7 @@ delivery_of m = delivery_due m.state.place m.state.view
 pub Makes-ends : (b : Before) (m : Making Core) (next : Act) (node : Node) (outside : Outside) → ((x : Block) (y : Cert) → next ≡ act_of.Deliver x y → ⊥) → IsDelivery m next → Makes b m next node outside → (delivery_of m ≡ None) × Makes b m act_of.Kept node outside
 Makes-ends b m next node outside h d s =
     let e = ends next (delivery_of m) m.state.view h d in
-    (e.0, Makes-view b m next act_of.Kept node node outside s refl refl refl (s.view ∙ sym e.1))
+    (e.0, Makes-view b m next act_of.Kept node node outside s refl refl refl refl (s.view ∙ sym e.1))
 
 pub delivery-told : (m : Making Core) (next : Act) (block : Block) (cert : Cert) → next ≡ act_of.Deliver block cert → IsDelivery m next → delivery_of m ≡ Some (block, cert)
 delivery-told m next block cert e d = delivery-due (delivery_of m) block cert (ap act_in (sym e) ∙ d)

@@ -3,7 +3,7 @@ use Rattle.std.proofs.Common.{◌≡◌, ℕ, List, ◌++◌, Option, Some, None
 use Rattle.std.specs.Prelude.{codes}
 use Rattle.std.proofs.lemmas.List.{append-nil}
 use Rattle.script.specs.declared.command.Command.{Command}
-use Rattle.script.specs.declared.command.Command.TheVariants.{Genesis, Submit, Tick, Deliver, Flush}
+use Rattle.script.specs.declared.command.Command.TheVariants.{Genesis, Submit, Raw, Show, Tick, Deliver, Flush}
 use Rattle.script_play.specs.declared.ending.Ending.{Ending}
 use Rattle.script_play.specs.Turns.{Turned}
 use Rattle.node_model.specs.Cores.{Core}
@@ -26,6 +26,8 @@ pub turn_refused : (number : ℕ) (command : Command) (before after : List ℕ) 
 unfolding turn_of
 turn_refused number (Genesis members) before after other printed = absurd (other members refl)
 turn_refused number (Submit node client serial payload) before after other printed = record { printed = printed; next = refl }
+turn_refused number (Raw node bytes) before after other printed = record { printed = printed; next = refl }
+turn_refused number (Show node block) before after other printed = record { printed = printed; next = refl }
 turn_refused number (Tick node count) before after other printed = record { printed = printed; next = refl }
 turn_refused number (Deliver ranges) before after other printed = record { printed = printed; next = refl }
 turn_refused number (Flush only) before after other printed = record { printed = printed; next = refl }

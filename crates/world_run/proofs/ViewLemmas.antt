@@ -8,7 +8,7 @@ use Rattle.ord_types.specs.declared.values.Cert.{Cert}
 use Rattle.safety_model.specs.Blocks.{Block}
 use Rattle.signer_edge.specs.Accepts.{Accepts}
 use Rattle.bft_wire.specs.declared.reason.Reason.{Reason}
-use Rattle.bft_wire.specs.declared.message.Message.TheVariants as message_of
+use Rattle.node_model.specs.declared.letter.VoteMessage.TheVariants as message_of
 use Rattle.node_model.specs.Letters.{Prepare}
 use Rattle.node_model.specs.declared.letter.Letter.{Letter}
 use Rattle.node_model.specs.declared.act.Act.{Act}

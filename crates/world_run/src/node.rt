@@ -1,13 +1,13 @@
 //! A node of the world, and its steps.
 ghost use Rattle.std.specs.Prelude.{◌≡◌, ◌≢◌, ◌∷◌, ◌++◌, [], ◌<◌, ◌≤◌, ◌^◌, IfOk, OnOk, Some, None, length, map, string_bytes, suc, zero};
 ghost use Rattle.std.specs.List.{flat_map};
-ghost use Rattle.std.specs.Prelude.{ℕ, IfSome, List as Items};
+ghost use Rattle.std.specs.Prelude.{ℕ, IfSome, List as Items, option_copied, slice_get};
 ghost use Rattle.ord_types.specs.Genesis.{IsGenesisConfig, genesis_block};
 ghost use Rattle.ord_types.specs.Lengths.{FitsBlock, FitsCert, FitsSig};
 ghost use Rattle.ord_types.specs.declared.values.Proof.TheVariants as proof_of;
 ghost use Rattle.bft_wire.specs.Lengths.{FitsMessage};
 ghost use Rattle.bft_wire.specs.Reading.{message_in};
-ghost use Rattle.view_core.specs.Acts.{FitsAct};
+ghost use Rattle.view_core.specs.Fits.{FitsAct};
 ghost use Rattle.ord_types.specs.Hashes.{block_hash};
 ghost use Rattle.signer_edge.specs.Seals.{SealsOne, next_sig, with_seal};
 ghost use Rattle.bft_wire.specs.declared.message.Message.TheVariants as message_of;
@@ -95,7 +95,7 @@ fn first_place(config: &Config, genesis: &Block) -> Result<Place, NoMemory>
 
 /// The certificate that a proposal carries.
 fn carried_cert(place: &Place) -> Result<Option<Cert>, NoMemory>
-    requires { IfSome place.now.last_cert FitsCert }
+    requires { IsPlace place.now }
     ensures cert { IfOk result (λ cert. cert ≡ carried_cert place.now) }
     ensures fits { IfOk result (λ cert. IfSome cert FitsCert) }
 {
@@ -270,7 +270,7 @@ impl Node {
 
     /// What follows a delivery: the line of the block, and the next place.
     fn deliver(&mut self, block: Block, cert: Cert, outside: &mut Outside) -> Result<(), NoMemory>
-        requires { FitsCert cert }
+        requires { FitsAct (act_of.Deliver block cert) }
         ensures { OnOk result ((b : Before) (m : Making Core) → Makes b m (act_of.Deliver block cert) self.old outside.old → Makes b (makes_delivered core_ways block cert m) act_of.Kept self.new outside.new) }
     {
         if self.place.height + 1 >= MOST_NUMBER || block.meta.decided >= MOST_NUMBER {

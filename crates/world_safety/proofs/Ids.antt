@@ -22,30 +22,6 @@ member_has P id (x ∷ xs) all is =
       | inr n ↦ member_has P id xs all.1 n
     ]
 
--- THE IDS OF A GENESIS
-
-ascend_pairs : (least : ℕ) (xs : List ℕ) → ((j : ℕ) (d : ℕ) → j < length xs → least ≤ get_or xs j d) → AllPairs (λ x y. x < y) xs → Ascend least xs
-ascend_pairs least [] from all = tt
-ascend_pairs least (x ∷ xs) from all = (
-  from 0 x (omega arith),
-  ascend_pairs (x + 1) xs (λ j d lt. (let above : x < get_or xs j d = all 0 (suc j) d (omega arith) (omega arith) in omega arith))
-      (λ i j d lt le. all (suc i) (suc j) d (omega arith) (omega arith)),
-)
-
-from_one : (xs : List ℕ) → AllByRecursion (λ x. 1 ≤ x) xs → Ascend 0 xs → Ascend 1 xs
-from_one [] all up = tt
-from_one (x ∷ xs) all up = (all.0, up.1)
-
-pub ids_spelled : (ids : List ℕ) → AreIds ids → HasIdsSpelling ids
-ids_spelled ids are =
-    let each = recursion_from_All IsId ids are.each in
-    let up : Ascend 0 ids = ascend_pairs 0 ids (λ j d lt. omega arith) (AllPairs-from_increasing ids are.ascending) in
-    record {
-      count = are.few;
-      ascending = from_one ids (all_map IsId (λ x. 1 ≤ x) (λ x is. is.positive) ids each) up;
-      words = all_map IsId IsWord (λ x is. (let below = is.below in omega arith)) ids each;
-    }
-
 -- SIGNATURES OF MEMBERS
 
 -- a member's signature that has a spelling

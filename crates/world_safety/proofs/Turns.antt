@@ -34,7 +34,7 @@ use Rattle.world_model.specs.Turns.{at_node, deliver_turn, deliveries, delivery,
 use Rattle.world_model.specs.Worlds.{Entry, Node, World, entry, is_waiting, letter_from, making, marked, node_at, offer_to, tick_of, world_after}
 use Rattle.world_safety.specs.Safe.{ids_of, setup_on}
 use Rattle.world_safety.proofs.Lists.{all_map, all_mapped}
-use Rattle.world_safety.proofs.Ids.{ids_spelled}
+use Rattle.script.proofs.IdLemmas.{ids_spelled}
 use Rattle.world_safety.proofs.Nodes.{IsGoodEvent, opened}
 use Rattle.world_safety.proofs.Reading.{EntryIn, each_byte, entry_brings, ordinary_bytes, pool_spelled}
 use Rattle.world_safety.proofs.Worlds.{GoodWorld, NodeIn, all_set, event_keeps, found_entry, found_node, nodes_apart, with_ids, with_new}

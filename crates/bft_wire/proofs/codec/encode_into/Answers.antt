@@ -1,4 +1,4 @@
-use Rattle.std.proofs.Common.{◌≡◌, ℕ, ◌≤◌, List, [], ◌++◌, length, drop, refl, sym, ap, ◌∙◌, arith, tests, rules}
+use Rattle.std.proofs.Common.{◌≡◌, ◌≤◌, [], length, refl, arith, rules}
 use Rattle.bft_wire.specs.Spelling.{message_text}
 use Rattle.bft_wire.proofs.codec.encode_into.Goals as goal
 

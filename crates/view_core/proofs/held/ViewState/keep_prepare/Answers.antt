@@ -36,7 +36,7 @@ pub keep-requires-clause-held : goal.keep-requires-clause-held
 keep-requires-clause-held c =
     let letter : Letter = record { from = c.args.from; message = message_of.Prepare c.args.message.now } in
     let inside : None ≡ first_reason (stands_outside c.args.place.now c.args.self.now letter) = c.in_default.ensures c.args.self.now (sym (ap (λ v. v.view) c.self.view_is)) (sym (ap (λ v. v.left) c.self.view_is)) in
-    inside_is_held c.args.place.now c.args.self.now letter c.requires.stands (sym inside)
+    inside_is_held c.args.place.now c.args.self.now letter c.requires.stands refl (sym inside)
 
 pub keep-requires-clause-new : goal.keep-requires-clause-new
 keep-requires-clause-new c =

@@ -10,7 +10,7 @@ use Rattle.view_core.proofs.held.ViewState.placed_vote.Goals as goal
 pub new_vote-requires-clause-held : goal.new_vote-requires-clause-held
 new_vote-requires-clause-held g c =
     let new = new_parts (g.V.Verifier.accepts c.args.verifier.now) c.args.place.now c.args.self.now c.args.letter (sym c.if-is_new.ensures) in
-    inside_is_held c.args.place.now c.args.self.now c.args.letter c.requires.stands new.inside
+    inside_is_held c.args.place.now c.args.self.now c.args.letter c.requires.stands c.requires.short new.inside
 
 pub new_vote-requires-clause-new : goal.new_vote-requires-clause-new
 new_vote-requires-clause-new g c = (new_parts (g.V.Verifier.accepts c.args.verifier.now) c.args.place.now c.args.self.now c.args.letter (sym c.if-is_new.ensures)).fresh

@@ -2,6 +2,7 @@ use Rattle.std.proofs.Common.{◌≡◌, subst, IfOk, OnOk, OnErr}
 use Rattle.node_model.specs.Acts.{View}
 use Rattle.node_model.specs.Answers.{after_act, propose_answer}
 use Rattle.view_core.proofs.AnswerLemmas.{answered}
+use Rattle.view_core.proofs.FitLemmas.{IfOk-fits, propose_fits}
 use Rattle.view_core.proofs.held.ViewState.propose.Goals as goal
 
 pub returns-clause-answer : goal.returns-clause-answer
@@ -16,3 +17,7 @@ returns-clause-after g c =
 pub returns-clause-err : goal.returns-clause-err
 returns-clause-err g c =
     subst (λ (w : View). OnErr c.placed_proposal.result (c.placed_proposal.new.self ≡ w)) c.settle.ensures.at c.placed_proposal.ensures.err
+
+pub returns-clause-fits : goal.returns-clause-fits
+returns-clause-fits g c =
+    IfOk-fits c.placed_proposal.result (propose_answer c.args.place.now c.settle.new.self c.args.offer) c.placed_proposal.ensures.answer (propose_fits c.args.place.now c.settle.new.self c.args.offer)
