@@ -1,17 +1,13 @@
 -- Ids in ascending order, and signatures by them.
-use Rattle.std.proofs.Common.{◌≡◌, ℕ, suc, ◌+◌, ◌<◌, ◌≤◌, ◌^◌, true, List, [], ◌∷◌, map, length, get_or, refl, sym, subst, inl, inr, Option, Some, None, arith}
+use Rattle.std.proofs.Common.{◌≡◌, ℕ, suc, ◌+◌, ◌<◌, ◌≤◌, ◌^◌, true, List, [], ◌∷◌, map, length, refl, sym, subst, inl, inr, Option, Some, None, arith}
 use Rattle.std.specs.Prelude.{◌==◌, filter_map}
-use Rattle.std.specs.List.{AllByRecursion, AllPairs, cons_option}
+use Rattle.std.specs.List.{AllByRecursion, cons_option}
 use Rattle.std.proofs.lemmas.Bool.{eqb-true, or_cases}
 use Rattle.std.proofs.lemmas.List.{length-map}
-use Rattle.std.proofs.lemmas.List.Elements.{recursion_from_All}
-use Rattle.std.proofs.lemmas.List.Kept.{AllPairs-from_increasing}
 use Rattle.ord_types.specs.Grammar.{AreSigs, Ascend, HasIdsSpelling, HasSigSpelling, IsWord}
 use Rattle.ord_types.specs.Members.{is_in}
 use Rattle.ord_types.specs.declared.values.Sig.{Sig}
-use Rattle.script.specs.Commands.{AreIds, IsId}
 use Rattle.world_safety.proofs.Fits.{CertFits}
-use Rattle.world_safety.proofs.Lists.{all_map}
 
 -- what holds of all members holds of each
 pub member_has : (P : ℕ → Type 0) (id : ℕ) (members : List ℕ) → AllByRecursion P members → is_in id members ≡ true → P id
