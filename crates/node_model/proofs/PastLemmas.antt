@@ -168,7 +168,7 @@ view_with su i past ms = record (view_of su i past) { kept = held (config_of su 
 
 view_came : (su : Setup) (i : ℕ) (past : Past) (accepts : Accepts) (l : Letter) (b : Bool) → eqb l.from i ≡ b
     → view_with su i past (filter (is_timely su i (facts_of past) accepts) (of_another i (Some l)) ++ timely su i past)
-      ≡ cond b (view_of su i past) (kept_after accepts (place_of su i (facts_of past)) (view_of su i past) l)
+    ≡ cond b (view_of su i past) (kept_after accepts (place_of su i (facts_of past)) (view_of su i past) l)
 unfolding view_of
 view_came su i past accepts l true is =
     ap (λ b. view_with su i past (filter (is_timely su i (facts_of past) accepts) (cond b [] (l ∷ [])) ++ timely su i past)) is
@@ -179,7 +179,7 @@ view_came su i past accepts l false is =
 -- bytes that came are the vote message that they spell, if they spell one
 view_heard : (su : Setup) (i : ℕ) (past : Past) (accepts : Accepts) (from : ℕ) (bytes : List ℕ)
     → view_of su i (Came (FromMember from bytes) accepts ∷ past)
-      ≡ view_with su i past (filter (is_timely su i (facts_of past) accepts) (of_another i (letter_in from bytes)) ++ timely su i past)
+    ≡ view_with su i past (filter (is_timely su i (facts_of past) accepts) (of_another i (letter_in from bytes)) ++ timely su i past)
 unfolding view_of
 view_heard su i past accepts from bytes = refl
 
@@ -204,7 +204,7 @@ ticked su i past offer accepts = refl
 
 seen_hears : (o : Option Letter) (accepts : Accepts) (n : PastNode)
     → core_with (past_place n) (view_with n.setup n.id n.past (filter (is_timely n.setup n.id (facts_of n.past) accepts) (of_another n.id o) ++ timely n.setup n.id n.past))
-      ≡ core_hears o accepts (core_of_past n)
+    ≡ core_hears o accepts (core_of_past n)
 seen_hears None accepts n = ap (core_with (past_place n)) (view_silent n.setup n.id n.past)
 seen_hears (Some l) accepts n =
     let b = eqb l.from n.id in

@@ -315,7 +315,13 @@ impl World {
         let alloc = self.outside.alloc;
         let node = &mut self.nodes[place];
         let answer = submit(alloc, &mut node.pool, bytes)?;
-        put_answer(&mut self.outside.text, self.outside.number, word, to, answer)?;
+        put_answer(
+            &mut self.outside.text,
+            self.outside.number,
+            word,
+            to,
+            answer,
+        )?;
         Ok(())
     }
 
