@@ -10,7 +10,7 @@ use Rattle.ord_types.specs.declared.values.Proof.{Proof}
 use Rattle.ord_types.specs.declared.values.Proof.TheVariants as proof_of
 use Rattle.ord_types.specs.Genesis.{genesis_block}
 use Rattle.ord_types.specs.Spelling.{request_text}
-use Rattle.safety_model.specs.Blocks.{Block, Config, Request}
+use Rattle.safety_model.specs.Blocks.{Block, Config}
 use Rattle.safety_model.specs.Facts.{History}
 use Rattle.node_model.specs.Steps.{Event, Making}
 use Rattle.node_model.specs.Cores.{Core, core_opens, core_ways}

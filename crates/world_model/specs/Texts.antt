@@ -3,7 +3,6 @@ use Rattle.std.specs.Prelude.{ℕ, List, [], ◌∷◌, ◌++◌, length, codes,
 use Rattle.std.specs.List.{flat_map}
 use Rattle.hex.specs.Hex.{encode_lower}
 use Rattle.ord_types.specs.Hashes.{block_hash}
-use Rattle.ord_types.specs.declared.values.Cert.{Cert}
 use Rattle.ord_types.specs.declared.values.Proof.{Proof}
 use Rattle.ord_types.specs.declared.values.Proof.TheVariants as proof_of
 use Rattle.ord_types.specs.declared.values.ReqId.{ReqId}
@@ -13,7 +12,7 @@ use Rattle.safety_model.specs.declared.fact.Fact.{Fact}
 use Rattle.safety_model.specs.declared.fact.Fact.TheVariants.{Delivered}
 use Rattle.node_model.specs.Steps.{Ways}
 use Rattle.world_model.specs.Pools.{Answer, Admitted, Malformed, KnownPending}
-use Rattle.world_model.specs.Worlds.{Node, World}
+use Rattle.world_model.specs.Worlds.{Node}
 
 unfoldable pub genesis_text : ℕ → List ℕ
 genesis_text number = decimal number ++ codes " genesis\n"

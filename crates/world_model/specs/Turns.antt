@@ -16,7 +16,7 @@ use Rattle.script_play.specs.declared.ending.Ending.{Ending}
 use Rattle.script_play.specs.declared.ending.Ending.TheVariants.{Limit}
 use Rattle.script_play.specs.Turns.{Turn}
 use Rattle.node_model.specs.Steps.{Event}
-use Rattle.world_model.specs.Pools.{Answer, answer, pool_after}
+use Rattle.world_model.specs.Pools.{answer, pool_after}
 use Rattle.world_model.specs.Worlds.{Setting, World, Node, Entry, node_at, with_node, making, world_after, tick_of, entry, letter_from, marked, is_waiting}
 use Rattle.world_model.specs.Texts.{genesis_text, tick_text, deliver_text, flush_text, refused_text, limit_text, answer_text, fact_text, show_text, sent_text, closing_line}
 

@@ -1,4 +1,3 @@
-use Rattle.std.proofs.Common.{◌∙◌}
 use Rattle.world_run.proofs.runner.submit.Goals as goal
 
 pub returns-clause-turned : goal.returns-clause-turned

@@ -1,4 +1,4 @@
-use Rattle.std.proofs.Common.{List, ap, refl, ◌∙◌}
+use Rattle.std.proofs.Common.{ap, refl, ◌∙◌}
 use Rattle.world_model.specs.Pools.{settled}
 use Rattle.world_run.proofs.MakingLemmas.{makes_delivered-done}
 use Rattle.world_run.proofs.node.Node.deliver.Goals as goal

@@ -1,4 +1,4 @@
-use Rattle.std.proofs.Common.{sym, ◌∙◌}
+use Rattle.std.proofs.Common.{sym}
 use Rattle.world_run.proofs.ShowLemmas.{shown_none, shown_some}
 use Rattle.world_run.proofs.world.World.show.Goals as goal
 
