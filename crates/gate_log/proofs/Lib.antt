@@ -1,0 +1,11 @@
+mod AppendRun
+mod Appending
+mod Found
+mod Fronts
+mod Gates
+mod Going
+mod Left
+mod Parsing
+mod Readings
+mod Steps
+mod Wholes

@@ -1,0 +1,4 @@
+pub mod Disk
+pub mod Format
+pub mod Runs
+pub mod Settled
