@@ -9,3 +9,7 @@ mod Parsing
 mod Readings
 mod Steps
 mod Wholes
+mod Torn
+mod Bodies
+mod Entries
+mod OpenLemmas

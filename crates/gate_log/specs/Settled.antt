@@ -38,3 +38,11 @@ OnRefusal (Err (TooLong n)) P = P
 OnRefusal (Err (Foreign at)) P = P
 OnRefusal (Err NoMemory) P = P
 OnRefusal (Err Failed) P = Unit {0}
+
+-- a call that gives up for want of memory, or because the disk failed
+abbrev pub GivesUp : {T : Type 0} → ℕ → ℕ → Result T LogFault → Type 0
+GivesUp before now (Ok _) = Unit {0}
+GivesUp before now (Err (TooLong n)) = ⊥
+GivesUp before now (Err (Foreign at)) = ⊥
+GivesUp before now (Err NoMemory) = Unit {0}
+GivesUp before now (Err Failed) = Rose before now

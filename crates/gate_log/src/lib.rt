@@ -4,9 +4,14 @@
 mod append;
 mod disk;
 mod fault;
+mod head;
 mod log;
+mod open;
 mod parse;
 mod reading;
+mod renew;
+mod restart;
+mod through;
 mod whole;
 
 pub use disk::Disk;

@@ -41,8 +41,8 @@ pub fn read_log(alloc: Global, bytes: &[u8]) -> Result<Reading, NoMemory>
 }
 
 // How many of the header's bytes stand at the front.
-fn same_front(bytes: &[u8]) -> usize
-    requires { 9 < length bytes.now }
+pub fn same_front(bytes: &[u8]) -> usize
+    requires { 8 ≤ length bytes.now }
     ensures { result ≡ common header bytes.now }
 {
     if bytes[0] != HEADER[0] {
