@@ -13,3 +13,4 @@ mod Torn
 mod Bodies
 mod Entries
 mod OpenLemmas
+mod RestartLemmas
