@@ -14,3 +14,5 @@ mod Bodies
 mod Entries
 mod OpenLemmas
 mod RestartLemmas
+mod HistoryLemmas
+mod Overwriting

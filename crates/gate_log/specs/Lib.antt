@@ -1,5 +1,8 @@
+pub mod Arms
+pub mod Calls
 pub mod Disk
 pub mod Format
+pub mod History
 pub mod Opening
 pub mod Renew
 pub mod Runs

@@ -2,9 +2,14 @@
 #![tactic(auto)]
 
 mod append;
+mod arm;
+mod call;
 mod disk;
 mod fault;
+mod files;
 mod head;
+mod history;
+mod image;
 mod log;
 mod open;
 mod parse;
@@ -16,6 +21,7 @@ mod whole;
 
 pub use disk::Disk;
 pub use fault::LogFault;
+pub use image::Image;
 pub use log::GateLog;
 pub use parse::read_log;
 pub use reading::Reading;
