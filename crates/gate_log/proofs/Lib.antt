@@ -16,3 +16,4 @@ mod OpenLemmas
 mod RestartLemmas
 mod HistoryLemmas
 mod Overwriting
+mod ReplayLemmas

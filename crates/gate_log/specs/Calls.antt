@@ -49,6 +49,35 @@ left_by Keep file = file.reads
 left_by Undo file = file.kept
 left_by (Fill byte) file = filled byte file.pending file.reads
 
+-- the call is a sync of this file
+abbrev pub is_sync : ℕ → Call → Bool
+is_sync f (Wrote g at bytes) = false
+is_sync f (Synced g) = g == f
+
+-- none of these calls is a sync of this file
+abbrev pub NoSync : ℕ → List Call → Type 0
+NoSync f [] = Unit {0}
+NoSync f (call ∷ calls) = (is_sync f call ≡ false) × NoSync f calls
+
+-- a file after a call, and after calls
+abbrev pub after_on : ℕ → Call → File → File
+after_on f (Wrote g at bytes) file = if g == f then after_write at bytes file else file
+after_on f (Synced g) file = if g == f then after_sync file else file
+
+abbrev pub file_after : ℕ → File → List Call → File
+file_after f file [] = file
+file_after f file (call ∷ calls) = file_after f (after_on f call file) calls
+
+-- what a call makes of a file's bytes
+abbrev pub bytes_after : ℕ → Call → List ℕ → List ℕ
+bytes_after f (Wrote g at bytes) old = if g == f then overwritten at bytes old else old
+bytes_after f (Synced g) old = old
+
+-- bytes with this byte in each place that a call writes
+abbrev pub filled_after : ℕ → ℕ → Call → List ℕ → List ℕ
+filled_after byte f (Wrote g at bytes) old = if g == f then overwritten at (replicate (length bytes) byte) old else old
+filled_after byte f (Synced g) old = old
+
 with_fine : (f : ℕ) (file : File) (state : State) → MayLeave file file.reads → ((g : ℕ) → MayLeave (state g) (state g).reads) → (g : ℕ) → MayLeave (with_file f file state g) (with_file f file state g).reads
 with_fine f file state here all g = elim (g == f) as (λ b. MayLeave (if b then file else state g) (if b then file else state g).reads) [ true ↦ here | false ↦ all g ]
 

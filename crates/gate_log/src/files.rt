@@ -54,6 +54,18 @@ pub fn repeated(alloc: Global, byte: u8, count: usize) -> Result<Vec<u8>, AllocE
 }
 
 impl Files {
+    /// Three files with these bytes.
+    pub fn copy(&self) -> Result<Files, AllocError>
+        ensures { IfOk result (λ copy. (f : ℕ) → file_of copy f ≡ file_of self.now f) }
+    {
+        let alloc = *self.first.allocator();
+        Ok(Files {
+            first: Vec::from_slice(alloc, &self.first)?,
+            second: Vec::from_slice(alloc, &self.second)?,
+            third: Vec::from_slice(alloc, &self.third)?,
+        })
+    }
+
     /// The bytes of one of them.
     pub fn get(&self, file: u8) -> &[u8]
         requires { file < 3 }
