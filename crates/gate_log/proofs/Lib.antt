@@ -17,3 +17,4 @@ mod RestartLemmas
 mod HistoryLemmas
 mod Overwriting
 mod ReplayLemmas
+mod ImageLemmas

@@ -3,6 +3,7 @@ pub mod Calls
 pub mod Disk
 pub mod Format
 pub mod History
+pub mod Memory
 pub mod Opening
 pub mod Renew
 pub mod Runs

@@ -1,5 +1,5 @@
 ghost use Rattle.std.specs.Prelude.{◌≡◌};
-ghost use Rattle.gate_log.specs.Arms.{after_counted, is_reached as is_reached_of};
+ghost use Rattle.gate_log.specs.Arms.{after_counted, is_reached as is_reached_of, armed as armed_of, image_in_force};
 
 use crate::Image;
 
@@ -33,5 +33,25 @@ impl Arm {
         ensures { result ≡ is_reached_of self }
     {
         matches!(self, Arm::Reached { .. })
+    }
+
+    /// An arm at this counted call from here in its place. A disk that has stopped stays stopped.
+    pub fn armed(self, calls: u32, image: Image) -> Arm
+        ensures { result ≡ armed_of calls image self }
+    {
+        match self {
+            Arm::Reached { .. } => self,
+            _ => Arm::Waiting { calls, image },
+        }
+    }
+
+    /// The image that a crash leaves: where the disk has stopped, the one that was armed.
+    pub fn image(self, image: Image) -> Image
+        ensures { result ≡ image_in_force self image }
+    {
+        match self {
+            Arm::Reached { image: armed } => armed,
+            _ => image,
+        }
     }
 }
