@@ -1,15 +1,15 @@
 mod AppendRun
 mod Appending
-mod Found
+pub mod Found
 mod Fronts
-mod Gates
-mod Going
-mod Left
+pub mod Gates
+pub mod Going
+pub mod Left
 mod Parsing
 mod Readings
 mod Steps
 mod Wholes
-mod Torn
+pub mod Torn
 mod Bodies
 mod Entries
 mod OpenLemmas
@@ -17,4 +17,5 @@ mod RestartLemmas
 mod HistoryLemmas
 mod Overwriting
 mod ReplayLemmas
-mod ImageLemmas
+pub mod ImageLemmas
+mod LawLemmas

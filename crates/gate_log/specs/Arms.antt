@@ -1,5 +1,5 @@
 -- Where a disk in memory stops.
-use Rattle.std.specs.Prelude.{ℕ, ◌-◌, ◌==◌, Bool, true, false, if◌then◌else◌}
+use Rattle.std.specs.Prelude.{ℕ, zero, suc, ◌-◌, ◌==◌, Bool, true, false, if◌then◌else◌}
 use Rattle.gate_log.specs.declared.arm.Arm.{Arm}
 use Rattle.gate_log.specs.declared.image.Image.{Image}
 use Rattle.gate_log.specs.declared.arm.Arm.TheVariants.{Never, Waiting, Reached}
@@ -27,3 +27,8 @@ abbrev pub image_in_force : Arm → Image → Image
 image_in_force Never image = image
 image_in_force (Waiting calls old_image) image = image
 image_in_force (Reached old_image) image = old_image
+
+-- after so many more counted calls
+abbrev pub after_calls : ℕ → Arm → Arm
+after_calls zero arm = arm
+after_calls (suc n) arm = after_calls n (after_counted arm)

@@ -47,6 +47,7 @@ impl GateLog {
         // Want of memory and a length that is too great leave log and disk as they were.
         ensures refused { OnRefusal result ((self.new ≡ self.old) × (disk.new ≡ disk.old)) }
         ensures tells { D.tells disk.new ≡ D.tells disk.old }
+        ensures later { D.faults disk.old ≤ D.faults disk.new }
         ensures cause { AppendAnswers (too_long_of self.old.gate (length entry.now)) (D.faults disk.old) (D.faults disk.new) result }
     {
         if let Some(length) = too_long(self.gate, entry.len() as u64) {

@@ -1,4 +1,4 @@
-ghost use Rattle.std.specs.Prelude.{◌≡◌, ℕ, ◌<◌, [], IsTrue, IfOk, OnOk};
+ghost use Rattle.std.specs.Prelude.{◌≡◌, ℕ, ◌<◌, ◌≤◌, [], IsTrue, IfOk, OnOk};
 ghost use Rattle.ord_types.specs.Causes.{HasCause};
 ghost use Rattle.gate_log.specs.Disk.{now, Synced};
 ghost use Rattle.gate_log.specs.Runs.{Leaves};
@@ -12,7 +12,8 @@ use crate::head::{Head, head_of};
 use crate::parse::read_log;
 use crate::renew::{close_head, gate_behind, write_log};
 use crate::whole::read_whole;
-use crate::{Disk, GateLog, LogFault, Reading};
+use crate::reading::Reading;
+use crate::{Disk, GateLog, LogFault};
 use ord_types::{Failed, List};
 use std::alloc::Global;
 
@@ -33,6 +34,7 @@ impl GateLog {
         // A refusal leaves the file as it was, but for the sync.
         ensures refused { IsTrue (D.tells disk.old) → OnRefusal result (Synced file (D.moments disk.old) (D.moments disk.new)) }
         ensures tells { D.tells disk.new ≡ D.tells disk.old }
+        ensures later { D.faults disk.old ≤ D.faults disk.new }
         ensures cause { OpenAnswers (D.faults disk.old) (D.faults disk.new) result }
     {
         disk.sync(file)?;

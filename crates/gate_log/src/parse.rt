@@ -2,7 +2,7 @@ ghost use Rattle.std.specs.Prelude.{◌≡◌, ℕ, ◌+◌, ◌-◌, ◌*◌, �
 ghost use Rattle.std.specs.Prelude.{Result as Outcome};
 ghost use Rattle.gate_log.specs.Format.{header, common, entry_length, generation_of, walk, reading, gate_after};
 
-use crate::Reading;
+use crate::reading::Reading;
 use ord_types::{Bytes, List, NoMemory};
 use std::alloc::Global;
 

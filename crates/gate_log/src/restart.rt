@@ -9,7 +9,8 @@ use crate::head::head_of;
 use crate::parse::read_log;
 use crate::renew::{close_head, write_log};
 use crate::whole::read_whole;
-use crate::{Disk, GateLog, LogFault, Reading};
+use crate::reading::Reading;
+use crate::{Disk, GateLog, LogFault};
 use ord_types::{Bytes, Copied, List, NoMemory};
 use std::alloc::Global;
 
@@ -42,6 +43,7 @@ impl GateLog {
         ensures refused { IsTrue (D.tells disk.old) → OnRefusal result (D.moments disk.new ≡ D.moments disk.old) }
         ensures foreign { IsTrue (D.tells disk.old) → RefusesForeign (reading (now (D.moments disk.old) file).reads) result }
         ensures tells { D.tells disk.new ≡ D.tells disk.old }
+        ensures later { D.faults disk.old ≤ D.faults disk.new }
         ensures cause { RestartAnswers (list_too_long_of entries.now) (D.faults disk.old) (D.faults disk.new) result }
     {
         if let Some(length) = list_too_long(entries) {
