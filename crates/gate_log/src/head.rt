@@ -30,5 +30,9 @@ pub fn head_of(bytes: &[u8]) -> Head
     if bytes[8] == 0 {
         return Head::Begun;
     }
-    if bytes.len() == 9 { Head::New } else { Head::Open }
+    if bytes.len() == 9 {
+        Head::New
+    } else {
+        Head::Open
+    }
 }

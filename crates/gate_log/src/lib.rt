@@ -18,6 +18,8 @@ mod parse;
 mod reading;
 mod renew;
 mod restart;
+#[cfg(test)]
+mod tests;
 mod through;
 mod whole;
 

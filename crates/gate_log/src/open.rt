@@ -10,9 +10,9 @@ ghost use Rattle.gate_log.specs.declared.reading.Reading.TheVariants.{Absent, Lo
 
 use crate::head::{Head, head_of};
 use crate::parse::read_log;
+use crate::reading::Reading;
 use crate::renew::{close_head, gate_behind, write_log};
 use crate::whole::read_whole;
-use crate::reading::Reading;
 use crate::{Disk, GateLog, LogFault};
 use ord_types::{Failed, List};
 use std::alloc::Global;
@@ -62,12 +62,7 @@ impl GateLog {
 }
 
 // Makes an absent file a log of generation 1 with no entry.
-fn make_new<D: Disk>(
-    alloc: Global,
-    disk: &mut D,
-    file: u8,
-    head: Head,
-) -> Result<GateLog, Failed>
+fn make_new<D: Disk>(alloc: Global, disk: &mut D, file: u8, head: Head) -> Result<GateLog, Failed>
     requires file { file < 3 }
     requires synced { IsTrue (D.tells disk.old) → IsSynced (now (D.moments disk.old) file) }
     requires head { IsTrue (D.tells disk.old) → CanClose head (now (D.moments disk.old) file).reads }

@@ -7,9 +7,9 @@ ghost use Rattle.gate_log.specs.Renew.{IsOldOrNew, RestartAnswers, RefusesForeig
 
 use crate::head::head_of;
 use crate::parse::read_log;
+use crate::reading::Reading;
 use crate::renew::{close_head, write_log};
 use crate::whole::read_whole;
-use crate::reading::Reading;
 use crate::{Disk, GateLog, LogFault};
 use ord_types::{Bytes, Copied, List, NoMemory};
 use std::alloc::Global;
@@ -77,11 +77,7 @@ fn list_too_long(entries: &List<Bytes>) -> Option<u64>
 }
 
 // What stands behind the head gate of a new log.
-fn body_bytes(
-    alloc: Global,
-    generation: u64,
-    entries: &List<Bytes>,
-) -> Result<Bytes, NoMemory>
+fn body_bytes(alloc: Global, generation: u64, entries: &List<Bytes>) -> Result<Bytes, NoMemory>
     requires { AreShort entries.now }
     ensures { IfOk result (λ bytes. bytes ≡ body_of generation entries.now) }
 {

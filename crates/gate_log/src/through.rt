@@ -8,12 +8,7 @@ use crate::Disk;
 use ord_types::Failed;
 
 // Writes bytes to a file that is all on the disk, and syncs them.
-pub fn write_through<D: Disk>(
-    disk: &mut D,
-    file: u8,
-    at: u64,
-    bytes: &[u8],
-) -> Result<(), Failed>
+pub fn write_through<D: Disk>(disk: &mut D, file: u8, at: u64, bytes: &[u8]) -> Result<(), Failed>
     requires file { file < 3 }
     requires synced { IsTrue (D.tells disk.old) → IsSynced (now (D.moments disk.old) file) }
     ensures written { IsTrue (D.tells disk.old) → OnOk result

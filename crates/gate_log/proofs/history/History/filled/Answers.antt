@@ -33,6 +33,6 @@ returns c =
     c.loop-call.invariant.bytes
     ∙ ap (λ (calls : List Call). filled c.args.byte (file_after c.args.file (synced_file []) calls).pending (file_of h.files c.args.file)) whole
     ∙ ap (λ (p : List (ℕ × ℕ)). filled c.args.byte p (file_of h.files c.args.file))
-        (pending_same c.args.file (synced_file []) (file_at h c.args.file c.last_sync.result) (drop c.last_sync.result h.calls.items) nothing
-        ∙ pending_is c.args.file (start h.began ∷ []) h.calls.items c.last_sync.result)
+    (pending_same c.args.file (synced_file []) (file_at h c.args.file c.last_sync.result) (drop c.last_sync.result h.calls.items) nothing
+    ∙ pending_is c.args.file (start h.began ∷ []) h.calls.items c.last_sync.result)
     ∙ ap (filled c.args.byte (state c.args.file).pending) (each_reads h.files state h.first_reads h.second_reads h.third_reads c.args.file c.requires)
