@@ -55,6 +55,10 @@ below_three P first second third f within = elim (cases_eq f 0) [
 
 -- a write that was made and failed
 pub made_but_failed : (f at : ℕ) (bytes : List ℕ) (old new : List State) → MayLeave (now old f) (now old f).reads → Wrote f at bytes old new → Tried f at (length bytes) old new
-made_but_failed f at bytes old new left wrote =
-    let reads = overwritten at bytes (now old f).reads in
-    inr (reads, write_fine (now old f) at bytes left, wrote)
+made_but_failed f at bytes old new left wrote = inr
+    (record {
+      reads = overwritten at bytes (now old f).reads;
+      left = write_fine (now old f) at bytes left;
+      same = λ i within short away. outside_same at bytes (now old f).reads i within away;
+      moves = wrote;
+    })

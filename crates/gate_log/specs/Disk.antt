@@ -79,8 +79,14 @@ Wrote file at bytes old new = Moves file (after_write at bytes (now old file)) o
 abbrev pub Synced : ℕ → List State → List State → Type 0
 Synced file old new = Moves file (after_sync (now old file)) old new
 
+-- A write that failed and may have been made in part: its range may read as any bytes, and the file's length is any
+-- that a crash may leave.
+pub record HalfWrote (file at n : ℕ) (old new : List State) : Type 0 where
+  pub reads : List ℕ
+  pub left : IsLeft (now old file).kept ((at, n) ∷ (now old file).pending) reads
+  pub same : (i : ℕ) → i < length (now old file).reads → i < length reads → (i < at) ⊎ (at + n ≤ i) → slice_index reads i ≡ slice_index (now old file).reads i
+  pub moves : Moves file (after_try at n reads (now old file)) old new
+
 -- a write that failed: nothing, or the range may hold any bytes, in a crash and in a read
 abbrev pub Tried : ℕ → ℕ → ℕ → List State → List State → Type 0
-Tried file at n old new =
-    (new ≡ old)
-    ⊎ ((reads : List ℕ) × IsLeft (now old file).kept ((at, n) ∷ (now old file).pending) reads × Moves file (after_try at n reads (now old file)) old new)
+Tried file at n old new = (new ≡ old) ⊎ HalfWrote file at n old new

@@ -4,13 +4,10 @@ ghost use Rattle.gate_log.specs.Runs.{Leaves};
 ghost use Rattle.gate_log.specs.Format.{block};
 ghost use Rattle.gate_log.specs.Settled.{IsSettled, IsWithOrWithout, AppendAnswers, OnRefusal, too_long as too_long_of};
 
+use crate::log::{MAX_ENTRY, MAX_FILE};
 use crate::{Disk, GateLog, LogFault};
 use ord_types::{Bytes, List};
 use std::alloc::{AllocError, Global};
-
-const MAX_ENTRY: u64 = 4_194_304;
-
-const MAX_FILE: u64 = 1 << 62;
 
 impl GateLog {
     pub fn entries(&self) -> &List<Bytes>

@@ -6,6 +6,7 @@ ghost use Rattle.gate_log.specs.Settled.{IsSettled, OnRefusal};
 ghost use Rattle.gate_log.specs.Renew.{IsOldOrNew, RestartAnswers, RefusesForeign, AreShort, list_too_long as list_too_long_of};
 
 use crate::head::head_of;
+use crate::log::{MAX_ENTRY, MAX_FILE};
 use crate::parse::read_log;
 use crate::reading::Reading;
 use crate::renew::{close_head, write_log};
@@ -13,10 +14,6 @@ use crate::whole::read_whole;
 use crate::{Disk, GateLog, LogFault};
 use ord_types::{Bytes, Copied, List, NoMemory};
 use std::alloc::Global;
-
-const MAX_ENTRY: u64 = 4_194_304;
-
-const MAX_FILE: u64 = 1 << 62;
 
 impl GateLog {
     /// Begins a file anew with these entries. At `Ok` they are acknowledged: until the file is written to again, each
