@@ -1,8 +1,8 @@
 -- The four device calls of an append, one after another.
 use Rattle.std.specs.Prelude.{nat_lt, if◌then◌else◌}
 use Rattle.std.proofs.lemmas.Bool.Decides.{leb_tells}
-use Rattle.std.proofs.Common.{inl, inr, suc, arith, Option, Some, None, ◌≡◌, ℕ, ◌+◌, ◌^◌, ◌<◌, Bool, List, [], ◌∷◌, ◌++◌, length, IsTrue, refl, sym, ◌∙◌, ap, subst}
-use Rattle.gate_log.specs.Disk.{File, State, now, IsLeft, Wrote, Synced, Tried, after_write, overwritten, synced_file}
+use Rattle.std.proofs.Common.{inl, inr, suc, arith, Option, Some, None, ◌≡◌, ℕ, ◌+◌, ◌^◌, ◌<◌, Bool, List, [], ◌∷◌, ◌++◌, length, IsTrue, sym, ◌∙◌, ap, subst}
+use Rattle.gate_log.specs.Disk.{State, now, IsLeft, Wrote, Synced, Tried, after_write, overwritten, synced_file}
 use Rattle.gate_log.specs.Runs.{Leaves}
 use Rattle.gate_log.specs.Format.{block, gate_after}
 use Rattle.gate_log.proofs.Fronts.{IsFront}

@@ -1,11 +1,10 @@
 -- What each device call of an append leaves.
-use Rattle.std.proofs.Common.{◌≡◌, ◌≢◌, ◌⊎◌, inl, inr, ℕ, ◌+◌, ◌^◌, ◌<◌, ◌≤◌, List, [], ◌∷◌, ◌++◌, length, get_or, take, drop, refl, sym, ◌∙◌, ap, subst, arith, append_assoc, length-append}
+use Rattle.std.proofs.Common.{◌≡◌, inl, inr, ℕ, ◌+◌, ◌^◌, ◌<◌, List, [], ◌∷◌, ◌++◌, length, get_or, drop, sym, ◌∙◌, ap, subst, arith, append_assoc, length-append}
 use Rattle.gate_log.specs.Disk.{IsLeft, overwritten}
 use Rattle.gate_log.specs.Format.{reading, block, gate_after}
 use Rattle.gate_log.proofs.Fronts.{IsFront}
 use Rattle.gate_log.specs.Settled.{IsWithOrWithout}
-use Rattle.gate_log.specs.declared.reading.Reading.TheVariants.{Log}
-use Rattle.gate_log.proofs.Left.{Between, left_kept, left_between, overwritten_between, one_item}
+use Rattle.gate_log.proofs.Left.{left_kept, left_between, overwritten_between, one_item}
 use Rattle.gate_log.proofs.Gates.{front_ends, front_more, front_either}
 
 module _ (generation : ℕ) (entries : List (List ℕ)) (front tail entry : List ℕ) (is_front : IsFront generation entries front) (fits : length entry < 2 ^ 32) where

@@ -1,15 +1,14 @@
 -- What stands behind the head gate of a log that is begun, and how the head gate is opened.
-use Rattle.std.proofs.Common.{◌≡◌, ◌≢◌, ◌⊎◌, inl, inr, ℕ, suc, ◌+◌, ◌^◌, ◌<◌, ◌≤◌, List, [], ◌∷◌, ◌++◌, length, get_or, take, drop, refl, sym, ◌∙◌, ap, subst, arith, append_assoc, length-append}
-use Rattle.std.specs.Prelude.{slice_index, Result, Ok, Err}
-use Rattle.std.specs.Int.{w64, from_be_bytes, to_be_bytes}
+use Rattle.std.proofs.Common.{◌≡◌, ◌≢◌, inl, inr, ℕ, ◌^◌, ◌<◌, ◌≤◌, List, [], ◌∷◌, ◌++◌, length, get_or, drop, refl, sym, ◌∙◌, ap, subst, arith, append_assoc}
+use Rattle.std.specs.Int.{w64, to_be_bytes}
 use Rattle.std.proofs.lemmas.Nat.{from_be_bytes-to_be_bytes_8}
 use Rattle.std.proofs.lemmas.List.{append-nil}
 use Rattle.std.proofs.lemmas.Bool.{cases_eq}
-use Rattle.gate_log.specs.Disk.{File, IsLeft, synced_file, overwritten}
-use Rattle.gate_log.specs.Format.{header, common, reading, generation_of, walk, read_as, block, spelled, body, gate_after}
+use Rattle.gate_log.specs.Disk.{IsLeft, overwritten}
+use Rattle.gate_log.specs.Format.{header, reading, generation_of, walk, read_as, block, spelled, body}
 use Rattle.gate_log.specs.Renew.{AreShort, IsNewOrAbsent}
-use Rattle.gate_log.specs.declared.reading.Reading.TheVariants.{Absent, Log}
-use Rattle.gate_log.proofs.Fronts.{IsFront, onto}
+use Rattle.gate_log.specs.declared.reading.Reading.TheVariants.{Log}
+use Rattle.gate_log.proofs.Fronts.{IsFront}
 use Rattle.gate_log.proofs.Gates.{front_ends, front_more, walk_enough}
 use Rattle.gate_log.proofs.Readings.{good}
 use Rattle.gate_log.proofs.Left.{left_between, overwritten_between, one_item}

@@ -1,14 +1,12 @@
 -- What a file stands for, in front of its first closed gate and behind.
-use Rattle.std.proofs.Common.{◌≡◌, ◌≢◌, ◌⊎◌, inl, inr, ℕ, zero, suc, ◌+◌, ◌-◌, ◌^◌, ◌<◌, ◌≤◌, List, [], ◌∷◌, ◌++◌, length, take, drop, Result, Ok, Err, refl, sym, ◌∙◌, ap, subst, arith, append_assoc, length-append, length-drop, length-take, take-append-drop, true, false}
-use Rattle.std.specs.Prelude.{◌==◌, if◌then◌else◌, nat_lt, nat_le, slice_index}
-use Rattle.std.specs.Int.{w32, from_be_bytes, to_be_bytes}
+use Rattle.std.proofs.Common.{◌≡◌, ◌≢◌, ◌⊎◌, inl, inr, ℕ, zero, suc, ◌+◌, ◌^◌, ◌<◌, ◌≤◌, List, [], ◌∷◌, ◌++◌, length, take, drop, Result, Ok, Err, refl, sym, ◌∙◌, ap, subst, arith, append_assoc, length-append, length-drop, true, false}
+use Rattle.std.specs.Prelude.{◌==◌, if◌then◌else◌, nat_lt}
 use Rattle.std.proofs.lemmas.Bool.{ne_eqb, cases_eq}
-use Rattle.std.proofs.lemmas.Bool.Decides.{nat_tests, eqb_tells, leb_tells}
+use Rattle.std.proofs.lemmas.Bool.Decides.{nat_tests}
 use Rattle.std.proofs.lemmas.Nat.{from_be_bytes-to_be_bytes_4}
 use Rattle.std.proofs.lemmas.List.{take_at, drop_at}
-use Rattle.gate_log.specs.declared.reading.Reading.{Reading}
-use Rattle.gate_log.specs.declared.reading.Reading.TheVariants.{Absent, Foreign, Log}
-use Rattle.gate_log.specs.Format.{header, common, entry_length, generation_of, behind, walk, read_as, reading, block, gate_after}
+use Rattle.gate_log.specs.declared.reading.Reading.TheVariants.{Log}
+use Rattle.gate_log.specs.Format.{entry_length, behind, walk, read_as, reading, block, gate_after}
 use Rattle.gate_log.proofs.Fronts.{onto, IsFront}
 
 -- the length that stands in front of an entry

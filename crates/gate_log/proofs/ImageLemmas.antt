@@ -1,8 +1,8 @@
 -- The image that a crash of a disk in memory leaves is one that a crash may leave.
-use Rattle.std.proofs.Common.{◌≡◌, ◌⊎◌, inl, inr, ℕ, ◌+◌, ◌<◌, ◌≤◌, max, List, [], ◌∷◌, ◌++◌, length, get_or, replicate, refl, sym, ◌∙◌, ap, subst, arith, append_assoc}
+use Rattle.std.proofs.Common.{◌≡◌, ◌⊎◌, inl, inr, ℕ, ◌+◌, ◌<◌, ◌≤◌, max, List, [], ◌∷◌, ◌++◌, length, replicate, refl, sym, ◌∙◌, subst, arith, append_assoc}
 use Rattle.std.proofs.lemmas.List.{length-replicate}
 use Rattle.std.proofs.lemmas.Bool.{cases_eq}
-use Rattle.gate_log.specs.Disk.{File, State, now, IsLeft, MayLeave, IsOutside, greatest_end, Wrote, Tried, Moves, after_write, after_try, overwritten}
+use Rattle.gate_log.specs.Disk.{File, State, now, IsLeft, MayLeave, IsOutside, greatest_end, Wrote, Tried, overwritten}
 use Rattle.gate_log.specs.Written.{length-overwritten, outside_same, write_fine}
 use Rattle.gate_log.specs.Calls.{filled, left_by}
 use Rattle.gate_log.specs.declared.image.Image.{Image}

@@ -1,13 +1,12 @@
 -- The laws of logs, of their format and of armed disks.
-use Rattle.std.proofs.Common.{◌≡◌, ◌≢◌, ℕ, zero, suc, ◌+◌, ◌-◌, ◌^◌, ◌<◌, ◌≤◌, List, [], ◌∷◌, ◌++◌, length, refl, sym, ◌∙◌, ap, subst, arith, append_assoc, Bool, true, false}
-use Rattle.std.specs.Prelude.{◌==◌, if◌then◌else◌}
+use Rattle.std.proofs.Common.{◌≡◌, ◌≢◌, ℕ, zero, suc, ◌-◌, ◌^◌, ◌<◌, ◌≤◌, List, [], ◌∷◌, ◌++◌, refl, sym, ◌∙◌, ap, subst, arith, append_assoc, Bool}
+use Rattle.std.specs.Prelude.{if◌then◌else◌}
 use Rattle.std.proofs.lemmas.Bool.{ne_eqb}
 use Rattle.gate_log.specs.Arms.{after_counted, after_calls}
-use Rattle.gate_log.specs.Disk.{File, State, MayLeave, IsLeft}
+use Rattle.gate_log.specs.Disk.{File, State, MayLeave}
 use Rattle.gate_log.specs.Format.{header, body, reading}
 use Rattle.gate_log.specs.Renew.{AreShort}
 use Rattle.gate_log.specs.Settled.{IsSettled}
-use Rattle.gate_log.specs.declared.arm.Arm.{Arm}
 use Rattle.gate_log.specs.declared.arm.Arm.TheVariants.{Waiting, Reached}
 use Rattle.gate_log.specs.declared.image.Image.{Image}
 use Rattle.gate_log.specs.declared.log.GateLog.{GateLog}

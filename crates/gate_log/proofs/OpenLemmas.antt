@@ -1,6 +1,6 @@
 -- What an open leaves.
-use Rattle.std.proofs.Common.{◌≡◌, ◌⊎◌, inl, inr, ℕ, List, [], ◌∷◌, refl, sym, ◌∙◌, ap, subst}
-use Rattle.gate_log.specs.Disk.{File, State, now, MayLeave, IsLeft, Synced, synced_file}
+use Rattle.std.proofs.Common.{◌≡◌, inl, inr, ℕ, List, [], refl, sym, ◌∙◌, ap}
+use Rattle.gate_log.specs.Disk.{State, now, MayLeave, Synced, synced_file}
 use Rattle.gate_log.specs.Runs.{Leaves}
 use Rattle.gate_log.specs.Format.{reading, opened_as}
 use Rattle.gate_log.specs.Opening.{OpensAsBefore}

@@ -1,12 +1,11 @@
 -- One file of a disk in memory, and the images that a crash makes of it.
-use Rattle.std.proofs.Common.{◌≡◌, ◌≢◌, ◌⊎◌, inl, inr, ℕ, suc, ◌+◌, ◌-◌, ◌<◌, ◌≤◌, List, [], ◌∷◌, ◌++◌, length, get_or, take, drop, replicate, refl, sym, ◌∙◌, ap, subst, arith, Bool, true, false, eq-eqb, take-append-drop}
+use Rattle.std.proofs.Common.{◌≡◌, inl, inr, ℕ, ◌+◌, ◌<◌, List, [], ◌∷◌, ◌++◌, length, get_or, take, drop, replicate, refl, sym, ◌∙◌, ap, subst, arith, Bool, true, false, eq-eqb, take-append-drop}
 use Rattle.std.specs.Prelude.{◌==◌, if◌then◌else◌}
 use Rattle.std.proofs.lemmas.Bool.{cases_eq, ne_eqb}
-use Rattle.std.proofs.lemmas.List.{take_more, drop_more, take_all, drop_all}
-use Rattle.gate_log.specs.Disk.{File, State, now, after_write, after_sync, synced_file, overwritten}
-use Rattle.gate_log.specs.Calls.{file_of, start, after, with_file, states_from, after_on, file_after, bytes_after, filled_after, filled, is_sync, NoSync, left_by}
+use Rattle.std.proofs.lemmas.List.{take_more, drop_more}
+use Rattle.gate_log.specs.Disk.{File, State, now, after_write, after_sync, overwritten}
+use Rattle.gate_log.specs.Calls.{after, with_file, states_from, after_on, file_after, bytes_after, filled_after, filled, is_sync, NoSync}
 use Rattle.gate_log.specs.Renew.{IsSynced}
-use Rattle.gate_log.specs.declared.files.Files.{Files}
 use Rattle.gate_log.specs.declared.call.Call.{Call}
 use Rattle.gate_log.specs.declared.call.Call.TheVariants.{Wrote, Synced}
 

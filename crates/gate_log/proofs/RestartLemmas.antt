@@ -1,7 +1,6 @@
 -- What a restart leaves.
-use Rattle.std.proofs.Common.{◌≡◌, ◌≢◌, ◌⊎◌, inl, inr, ℕ, List, [], ◌∷◌, refl, sym, ◌∙◌, ap, subst, Option, Some, None}
-use Rattle.gate_log.specs.Disk.{File, State, now, MayLeave, IsLeft, synced_file}
-use Rattle.gate_log.specs.Format.{reading}
+use Rattle.std.proofs.Common.{◌≡◌, inl, inr, ℕ, List, [], refl, sym, ◌∙◌, ap, subst, Option, Some, None}
+use Rattle.gate_log.specs.Disk.{File, MayLeave, IsLeft}
 use Rattle.gate_log.specs.Renew.{IsSynced, IsOldOrAbsent, IsNewOrAbsent, IsOldOrNew}
 use Rattle.gate_log.proofs.Left.{left_kept}
 

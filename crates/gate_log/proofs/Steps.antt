@@ -1,5 +1,5 @@
 -- One write and the sync behind it, on a file that is all on the disk.
-use Rattle.std.proofs.Common.{◌≡◌, ℕ, List, [], ◌∷◌, length, sym, ap, subst}
+use Rattle.std.proofs.Common.{◌≡◌, ℕ, List, [], ◌∷◌, length, subst}
 use Rattle.gate_log.specs.Disk.{State, IsLeft, Wrote, Synced, Tried, overwritten, after_write, synced_file}
 use Rattle.gate_log.specs.Runs.{Leaves}
 use Rattle.gate_log.proofs.Going.{So, wrote, tried, synced, unchanged}

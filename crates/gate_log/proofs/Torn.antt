@@ -1,10 +1,10 @@
 -- A write that is torn, and heads that are closed.
-use Rattle.std.proofs.Common.{◌≡◌, ◌≢◌, inl, inr, ℕ, suc, ◌+◌, ◌<◌, ◌≤◌, List, [], ◌∷◌, ◌++◌, length, get_or, take, drop, refl, sym, ◌∙◌, ap, subst, arith, true, false, eq-eqb, Result, Ok, Err, OnOk}
-use Rattle.std.specs.Prelude.{◌==◌, if◌then◌else◌}
+use Rattle.std.proofs.Common.{◌≡◌, ◌≢◌, inl, inr, ℕ, ◌<◌, ◌≤◌, List, [], ◌∷◌, ◌++◌, length, get_or, drop, refl, sym, ◌∙◌, ap, subst, arith, true, false, eq-eqb, Result, Ok, Err, OnOk}
+use Rattle.std.specs.Prelude.{◌==◌}
 use Rattle.std.proofs.lemmas.List.{append-nil, drop_all, drop_more}
 use Rattle.std.proofs.lemmas.Bool.{cases_eq, ne_eqb}
 use Rattle.std.proofs.lemmas.Bool.Decides.{leb_tells}
-use Rattle.gate_log.specs.Disk.{File, State, now, IsLeft, synced_file, overwritten}
+use Rattle.gate_log.specs.Disk.{File, IsLeft, synced_file, overwritten}
 use Rattle.gate_log.specs.Written.{write_fine, whole_fine}
 use Rattle.gate_log.specs.Format.{header, common, reading, generation_of}
 use Rattle.gate_log.specs.Renew.{HasHead, IsClosed, IsOldOrAbsent}

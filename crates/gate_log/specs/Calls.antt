@@ -1,5 +1,5 @@
 -- The states of a disk in memory, from what was done to it.
-use Rattle.std.specs.Prelude.{◌≡◌, ◌≢◌, ◌⊎◌, ℕ, ◌+◌, ◌<◌, ◌≤◌, List, [], ◌∷◌, ◌++◌, length, replicate, ◌==◌, if◌then◌else◌, true, false, Bool, refl}
+use Rattle.std.specs.Prelude.{◌≡◌, ◌≢◌, ℕ, ◌<◌, List, [], ◌∷◌, length, replicate, ◌==◌, if◌then◌else◌, true, false, Bool}
 use Rattle.gate_log.specs.Disk.{File, State, now, MayLeave, synced_file, after_write, after_sync, overwritten}
 use Rattle.gate_log.specs.Written.{write_fine, whole_fine}
 use Rattle.gate_log.specs.declared.files.Files.{Files}

@@ -1,7 +1,7 @@
 -- What a call of a disk in memory comes to.
-use Rattle.std.specs.Prelude.{◌≡◌, ◌≢◌, ◌⊎◌, ℕ, ◌+◌, ◌-◌, ◌^◌, ◌<◌, min, nat_eq, Bool, true, false, ◌||◌, List, []}
+use Rattle.std.specs.Prelude.{◌≡◌, ◌⊎◌, ℕ, ◌+◌, ◌-◌, ◌^◌, min, nat_eq, Bool, true, false, ◌||◌, List, []}
 use Rattle.std.specs.List.{list_any}
-use Rattle.gate_log.specs.Disk.{State, now, synced_file}
+use Rattle.gate_log.specs.Disk.{now, synced_file}
 use Rattle.gate_log.specs.Arms.{after_counted, is_reached}
 use Rattle.gate_log.specs.History.{states}
 use Rattle.gate_log.specs.declared.arm.Arm.TheVariants.{Never}

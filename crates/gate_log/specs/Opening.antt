@@ -4,7 +4,7 @@ use Rattle.ord_types.specs.Causes.{Rose}
 use Rattle.gate_log.specs.Disk.{File, MayLeave}
 use Rattle.gate_log.specs.Format.{reading, opened_as}
 use Rattle.gate_log.specs.declared.reading.Reading.{Reading}
-use Rattle.gate_log.specs.declared.reading.Reading.TheVariants.{Absent, Foreign, Log}
+use Rattle.gate_log.specs.declared.reading.Reading.TheVariants.{Foreign, Log}
 use Rattle.gate_log.specs.declared.log.GateLog.{GateLog}
 use Rattle.gate_log.specs.declared.fault.LogFault.{LogFault}
 use Rattle.gate_log.specs.declared.fault.LogFault.TheVariants.{TooLong, Foreign as ForeignFile, NoMemory, Failed}

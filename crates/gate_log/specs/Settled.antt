@@ -1,7 +1,7 @@
 -- A log and its file.
-use Rattle.std.specs.Prelude.{◌≡◌, ◌⊎◌, ℕ, ◌+◌, ◌^◌, ◌<◌, List, [], ◌∷◌, ◌++◌, length, nat_lt, Option, Some, None, Result, Ok, Err, if◌then◌else◌}
+use Rattle.std.specs.Prelude.{◌≡◌, ◌⊎◌, ℕ, ◌+◌, ◌^◌, List, [], ◌∷◌, ◌++◌, nat_lt, Option, Some, None, Result, Ok, Err, if◌then◌else◌}
 use Rattle.ord_types.specs.Causes.{Rose}
-use Rattle.gate_log.specs.Disk.{File, State, synced_file}
+use Rattle.gate_log.specs.Disk.{State, synced_file}
 use Rattle.gate_log.specs.Format.{reading, gate_after}
 use Rattle.gate_log.specs.declared.reading.Reading.TheVariants.{Log}
 use Rattle.gate_log.specs.declared.log.GateLog.{GateLog}

@@ -1,6 +1,6 @@
 -- What a write leaves is one of the images that a crash may leave.
-use Rattle.std.specs.Prelude.{◌≡◌, ◌⊎◌, ℕ, ◌+◌, ◌-◌, ◌<◌, ◌≤◌, max, List, [], ◌∷◌, ◌++◌, length, take, drop, replicate, refl}
-use Rattle.std.proofs.Common.{inl, inr, get_or, arith, sym, ◌∙◌, ap, length-append, length-take, length-drop}
+use Rattle.std.specs.Prelude.{◌≡◌, ◌⊎◌, ℕ, ◌+◌, ◌-◌, ◌<◌, ◌≤◌, max, List, [], ◌++◌, length, take, drop, replicate, refl}
+use Rattle.std.proofs.Common.{inl, inr, get_or, arith, ◌∙◌, ap, length-append, length-take, length-drop}
 use Rattle.std.proofs.lemmas.List.{length-replicate, get_or_append_left, get_or-append_right, get_or-take, get_or-drop}
 use Rattle.gate_log.specs.Disk.{File, IsLeft, MayLeave, after_write, after_try, overwritten}
 

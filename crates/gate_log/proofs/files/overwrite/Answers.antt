@@ -1,4 +1,4 @@
-use Rattle.std.proofs.Common.{◌≡◌, ℕ, ◌+◌, ◌-◌, List, ◌++◌, length, take, drop, replicate, ◌∙◌, sym, ap, arith, length-append, length-take, length-drop}
+use Rattle.std.proofs.Common.{◌≡◌, ℕ, ◌+◌, ◌-◌, ◌++◌, length, take, drop, replicate, ◌∙◌, ap, arith, length-append, length-take, length-drop}
 use Rattle.gate_log.proofs.Overwriting.{overwritten_grown, grown_enough}
 use Rattle.gate_log.proofs.Wholes.{whole_buffer}
 use Rattle.gate_log.proofs.files.overwrite.Goals as goal

@@ -1,4 +1,4 @@
-use Rattle.std.proofs.Common.{◌≡◌, ℕ, get_or, arith, subst}
+use Rattle.std.proofs.Common.{ℕ, get_or, arith, subst}
 use Rattle.gate_log.specs.Renew.{HasHead}
 use Rattle.gate_log.proofs.Torn.{short_head, has_head}
 use Rattle.gate_log.proofs.head.head_of.Goals as goal

@@ -1,4 +1,4 @@
-use Rattle.std.proofs.Common.{◌≡◌, ℕ, List, [], ◌∷◌, ◌++◌, ◌∙◌, ap, refl, subst}
+use Rattle.std.proofs.Common.{◌∙◌, ap, refl, subst}
 use Rattle.gate_log.specs.Disk.{now, synced_file}
 use Rattle.gate_log.specs.Renew.{CanClose}
 use Rattle.gate_log.specs.declared.head.Head.{Head}

@@ -1,4 +1,4 @@
-use Rattle.std.proofs.Common.{◌≡◌, ℕ, List, [], subst}
+use Rattle.std.proofs.Common.{ℕ, List, subst}
 use Rattle.gate_log.specs.Renew.{IsNewOrAbsent}
 use Rattle.gate_log.proofs.Going.{leaves_to, leaves_then}
 use Rattle.gate_log.proofs.OpenLemmas.{OpensEmpty, empty_by_new}

@@ -1,9 +1,9 @@
-use Rattle.std.proofs.Common.{◌≡◌, ℕ, List, [], ◌∷◌, ◌++◌, subst}
+use Rattle.std.proofs.Common.{subst}
 use Rattle.gate_log.specs.Disk.{now}
 use Rattle.gate_log.specs.Renew.{CanClose}
 use Rattle.gate_log.specs.declared.head.Head.{Head}
 use Rattle.gate_log.proofs.Going.{leaves_to}
-use Rattle.gate_log.proofs.Torn.{Closes, closes_new, closes_begun, closes_open, closed_by, on_ok}
+use Rattle.gate_log.proofs.Torn.{closes_new, closes_begun, closes_open, closed_by, on_ok}
 use Rattle.gate_log.proofs.renew.close_head.Goals as goal
 
 pub returns-in-New-clause-any_moment : goal.returns-in-New-clause-any_moment

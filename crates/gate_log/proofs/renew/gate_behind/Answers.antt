@@ -1,5 +1,4 @@
-use Rattle.std.proofs.Common.{◌≡◌, ◌+◌, ◌<◌, ℕ, List, length, get_or, take, refl, sym, ◌∙◌, ap, arith}
-use Rattle.gate_log.specs.Format.{gate_after}
+use Rattle.std.proofs.Common.{◌+◌, arith}
 use Rattle.gate_log.proofs.Entries.{gate_after_next, gate_after_take}
 use Rattle.gate_log.proofs.renew.gate_behind.Goals as goal
 

@@ -1,10 +1,8 @@
-use Rattle.std.proofs.Common.{◌≡◌, ℕ, List, [], ◌∷◌, ◌++◌, length, sym, ◌∙◌, ap, subst}
-use Rattle.gate_log.specs.Disk.{File, State, now, IsLeft, synced_file, overwritten}
-use Rattle.gate_log.specs.Runs.{Leaves}
-use Rattle.gate_log.specs.Format.{header}
+use Rattle.std.proofs.Common.{ℕ, List, [], ◌∷◌, length, sym, ◌∙◌, ap, subst}
+use Rattle.gate_log.specs.Disk.{File, IsLeft, synced_file, overwritten}
 use Rattle.gate_log.specs.Renew.{IsNewOrAbsent}
 use Rattle.gate_log.proofs.Going.{leaves_to, leaves_then}
-use Rattle.gate_log.proofs.Bodies.{IsBody, body_is, filled, begun, fill_crash, fill_write, head_crash, head_write, stands}
+use Rattle.gate_log.proofs.Bodies.{IsBody, body_is, begun, fill_crash, fill_write, head_crash, head_write, stands}
 use Rattle.gate_log.proofs.AppendRun.{still}
 use Rattle.gate_log.proofs.renew.write_log.Goals as goal
 

@@ -1,4 +1,4 @@
-use Rattle.std.proofs.Common.{◌≡◌, ◌+◌, ◌<◌, ℕ, List, length, get_or, take, refl, sym, ◌∙◌, ap, subst, arith}
+use Rattle.std.proofs.Common.{subst}
 use Rattle.gate_log.specs.Renew.{AreShort}
 use Rattle.gate_log.proofs.Entries.{next_entry, spelled_next}
 use Rattle.gate_log.proofs.restart.body_bytes.Goals as goal

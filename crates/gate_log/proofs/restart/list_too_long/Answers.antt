@@ -1,4 +1,4 @@
-use Rattle.std.proofs.Common.{◌≡◌, ◌+◌, ◌<◌, ℕ, List, length, get_or, take, refl, sym, ◌∙◌, ap, subst, arith, Option, Some}
+use Rattle.std.proofs.Common.{◌+◌, ℕ, sym, ◌∙◌, ap, arith, Option, Some}
 use Rattle.gate_log.specs.Format.{gate_after}
 use Rattle.gate_log.specs.Renew.{long_or_large}
 use Rattle.gate_log.proofs.Entries.{gate_after_next, first_long_next, first_long_here}

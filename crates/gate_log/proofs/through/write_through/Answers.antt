@@ -1,4 +1,4 @@
-use Rattle.std.proofs.Common.{◌≡◌, ℕ, [], ◌∷◌, length}
+use Rattle.std.proofs.Common.{[], ◌∷◌, length}
 use Rattle.gate_log.specs.Disk.{now, IsLeft}
 use Rattle.gate_log.proofs.Going.{so_far}
 use Rattle.gate_log.proofs.Steps as step

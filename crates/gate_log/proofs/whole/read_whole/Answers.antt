@@ -1,4 +1,4 @@
-use Rattle.std.proofs.Common.{◌≡◌, ℕ, ◌<◌, ◌≤◌, ◌-◌, List, [], ◌++◌, length, take, drop, IsTrue, subst, sym, ◌∙◌, ap, arith, refl}
+use Rattle.std.proofs.Common.{◌≡◌, ℕ, ◌≤◌, List, ◌++◌, length, take, drop, subst, sym, ◌∙◌, ap, arith}
 use Rattle.gate_log.specs.Disk.{State, now}
 use Rattle.gate_log.proofs.AppendRun.{still}
 use Rattle.gate_log.proofs.Wholes.{one_piece, whole_buffer}

@@ -1,6 +1,6 @@
-use Rattle.std.proofs.Common.{◌≡◌, ◌-◌, ◌+◌, ◌<◌, ℕ, List, [], ◌∷◌, length, take, drop, refl, sym, ◌∙◌, ap, subst, arith}
+use Rattle.std.proofs.Common.{List, [], ◌∷◌, take, ◌∙◌, ap}
 use Rattle.std.proofs.lemmas.List.{take_all}
-use Rattle.gate_log.specs.Disk.{File, synced_file}
+use Rattle.gate_log.specs.Disk.{synced_file}
 use Rattle.gate_log.specs.Calls.{file_of, file_after, start}
 use Rattle.gate_log.specs.declared.call.Call.{Call}
 use Rattle.gate_log.proofs.ReplayLemmas.{bytes_next, kept_is}

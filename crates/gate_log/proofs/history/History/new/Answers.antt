@@ -1,5 +1,5 @@
 use Rattle.std.proofs.Common.{◌≡◌, ℕ, List, [], ◌∷◌, ◌∙◌, sym, ap}
-use Rattle.gate_log.specs.Disk.{State, now}
+use Rattle.gate_log.specs.Disk.{now}
 use Rattle.gate_log.specs.Calls.{start, states_from}
 use Rattle.gate_log.specs.declared.call.Call.{Call}
 use Rattle.gate_log.proofs.history.History.new.Goals as goal

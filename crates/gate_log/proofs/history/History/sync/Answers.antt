@@ -1,5 +1,5 @@
-use Rattle.std.proofs.Common.{◌≡◌, ℕ, List, [], ◌∷◌, ◌++◌, ◌∙◌, sym, ap}
-use Rattle.gate_log.specs.Disk.{State, now, after_sync}
+use Rattle.std.proofs.Common.{[], ◌∷◌, ◌∙◌, sym}
+use Rattle.gate_log.specs.Disk.{now, after_sync}
 use Rattle.gate_log.specs.Calls.{start, states_from}
 use Rattle.gate_log.specs.declared.call.Call.TheVariants.{Synced}
 use Rattle.gate_log.proofs.HistoryLemmas.{pushed, moves, sync_kept}

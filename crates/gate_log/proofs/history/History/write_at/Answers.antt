@@ -1,7 +1,6 @@
-use Rattle.std.proofs.Common.{◌≡◌, ℕ, List, [], ◌∷◌, ◌++◌, ◌∙◌, sym, ap, arith}
-use Rattle.gate_log.specs.Disk.{File, State, now, after_write}
-use Rattle.gate_log.specs.Calls.{start, states_from, after}
-use Rattle.gate_log.specs.declared.call.Call.{Call}
+use Rattle.std.proofs.Common.{ℕ, List, [], ◌∷◌, ◌++◌, ◌∙◌, sym, ap, arith}
+use Rattle.gate_log.specs.Disk.{State, now, after_write}
+use Rattle.gate_log.specs.Calls.{start, states_from}
 use Rattle.gate_log.specs.declared.call.Call.TheVariants.{Wrote}
 use Rattle.gate_log.proofs.HistoryLemmas.{pushed, moves, each_reads, write_reads, ok_of}
 use Rattle.gate_log.proofs.history.History.write_at.Goals as goal

@@ -1,4 +1,4 @@
-use Rattle.std.proofs.Common.{ℕ, List, subst, ◌≡◌, ◌+◌, ◌<◌, ◌^◌, [], ◌∷◌, ◌++◌, length, sym, ◌∙◌, ap, arith}
+use Rattle.std.proofs.Common.{ℕ, List, ◌<◌, ◌^◌, [], ◌∷◌, ◌++◌, length, sym, ◌∙◌, ap, arith}
 use Rattle.gate_log.specs.Format.{block, gate_after}
 use Rattle.gate_log.specs.Disk.{synced_file}
 use Rattle.gate_log.specs.declared.reading.Reading.TheVariants.{Log}

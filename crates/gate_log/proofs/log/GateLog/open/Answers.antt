@@ -1,7 +1,6 @@
-use Rattle.std.proofs.Common.{◌≡◌, ℕ, ◌+◌, ◌^◌, ◌<◌, List, [], ◌∷◌, ◌++◌, length, ap, sym, ◌∙◌, arith, IsTrue, length-append}
-use Rattle.gate_log.specs.Disk.{File, State, now}
+use Rattle.std.proofs.Common.{◌∷◌, length, ap, sym, ◌∙◌, arith, length-append}
+use Rattle.gate_log.specs.Disk.{File}
 use Rattle.gate_log.specs.Format.{reading}
-use Rattle.gate_log.specs.declared.reading.Reading.{Reading}
 use Rattle.gate_log.proofs.Going.{leaves_same, leaves_none_more}
 use Rattle.gate_log.proofs.Found.{has_front}
 use Rattle.gate_log.proofs.OpenLemmas.{OpensEmpty, after_sync_leaves, after_sync_file, after_sync_new}

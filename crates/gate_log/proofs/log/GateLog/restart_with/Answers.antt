@@ -1,9 +1,8 @@
-use Rattle.std.proofs.Common.{◌≡◌, ◌≢◌, ℕ, ◌+◌, ◌^◌, ◌<◌, List, [], refl, ap, sym, ◌∙◌, subst, IsTrue}
-use Rattle.gate_log.specs.Disk.{File, State, now}
+use Rattle.std.proofs.Common.{ℕ, ◌^◌, ◌<◌, List, ap, sym, ◌∙◌, subst}
+use Rattle.gate_log.specs.Disk.{State, now}
 use Rattle.gate_log.specs.Format.{reading, gate_after}
 use Rattle.gate_log.specs.Renew.{AreShort, CanClose, IsSynced, IsOldOrAbsent, IsOldOrNew, IsNewOrAbsent}
-use Rattle.gate_log.specs.declared.reading.Reading.{Reading}
-use Rattle.gate_log.proofs.Entries.{Fits, fits}
+use Rattle.gate_log.proofs.Entries.{fits}
 use Rattle.gate_log.proofs.Going.{leaves_to, leaves_then, leaves_same}
 use Rattle.gate_log.proofs.RestartLemmas.{is_synced, by_old, by_new, no_refusal}
 use Rattle.gate_log.proofs.AppendRun.{still}

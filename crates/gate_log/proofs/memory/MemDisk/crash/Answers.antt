@@ -1,4 +1,4 @@
-use Rattle.std.proofs.Common.{◌≡◌, ℕ, List, [], ◌∷◌, ◌<◌, ap, ◌∙◌, subst, sym}
+use Rattle.std.proofs.Common.{◌≡◌, ℕ, [], ◌∷◌, ap, ◌∙◌, subst, sym}
 use Rattle.gate_log.specs.Disk.{File, now, MayLeave, synced_file}
 use Rattle.gate_log.specs.History.{states}
 use Rattle.gate_log.specs.Arms.{image_in_force}

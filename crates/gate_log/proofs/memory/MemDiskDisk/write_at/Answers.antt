@@ -1,5 +1,5 @@
-use Rattle.std.proofs.Common.{◌≡◌, ℕ, List, [], ◌∷◌, length, ap, ◌∙◌, subst, sym}
-use Rattle.gate_log.specs.Disk.{State, now, Wrote, Tried}
+use Rattle.std.proofs.Common.{[], ◌∷◌, length, ap, subst, sym}
+use Rattle.gate_log.specs.Disk.{Wrote, Tried}
 use Rattle.gate_log.specs.History.{states}
 use Rattle.gate_log.specs.Calls.{start, states_fine, start_fine}
 use Rattle.gate_log.specs.declared.memory.MemDisk.{MemDisk}
