@@ -6,6 +6,7 @@ use Rattle.gate_log.proofs.Found.{has_front}
 use Rattle.gate_log.proofs.Gates.{gate_after_more, front_ends}
 use Rattle.gate_log.proofs.Appending.{beyond, finished_front}
 use Rattle.gate_log.proofs.AppendRun.{short, still, first_failed, second_failed, third_failed, fourth_failed, fourth}
+use Rattle.gate_log.proofs.RestartLemmas.{no_refusal}
 use Rattle.gate_log.proofs.log.GateLog.append.Goals as goal
 
 pub returns-in_err-write_at-clause-any_moment : goal.returns-in_err-write_at-clause-any_moment
@@ -82,3 +83,6 @@ returns-clause-settled g c = λ t.
       stands = front_ends _ _ (s.front ++ 1 ∷ block c.args.entry.now) tail (finished_front _ _ s.front s.tail c.args.entry.now s.is_front fits) ∙ ap (Log c.args.self.now.generation) (sym entries);
       gate = omega (arith, r.gate, more, ap gate_after entries);
     }
+
+pub returns-clause-cause : goal.returns-clause-cause
+returns-clause-cause g c = no_refusal c.too_long.result _ c.too_long.ensures c.in_default.not-Some

@@ -75,3 +75,6 @@ returns-clause-any_moment g c = λ t.
     let bytes = c.in_ok-bytes.ensures.bytes t1 ∙ ap (λ (f : File). f.reads) (after_sync_file c.args.file _ _ left sync) in
     let absent = ap reading (sym bytes) ∙ ap reading (sym c.deref.ensures.value) ∙ sym c.in_ok-at.ensures ∙ c.in-Absent.is in
     after_sync_new c.args.file _ _ left sync _ absent (leaves_same c.args.file OpensEmpty _ _ _ same (c.make_new.ensures.any_moment t2))
+
+pub returns-in-Foreign-clause-cause : goal.returns-in-Foreign-clause-cause
+returns-in-Foreign-clause-cause g c = tt

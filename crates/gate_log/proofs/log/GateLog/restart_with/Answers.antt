@@ -64,3 +64,6 @@ returns-clause-any_moment g c = λ t.
     let t2 = still _ _ c.close_head.ensures.tells t1 in
     let written = leaves_to c.args.file _ P (λ k new. by_new reads c.args.generation c.args.entries.now k (subst (λ (es : List (List ℕ)). IsNewOrAbsent c.args.generation es k) c.in_ok-copy.ensures new)) _ _ (c.write_log.ensures.any_moment t2) in
     leaves_same c.args.file P _ _ _ same (leaves_then c.args.file P _ _ _ closed written)
+
+pub returns-in-Foreign-clause-cause : goal.returns-in-Foreign-clause-cause
+returns-in-Foreign-clause-cause g c = no_refusal c.list_too_long.result _ c.list_too_long.ensures c.in_default.not-Some
