@@ -1,0 +1,11 @@
+pub mod Arms
+pub mod Calls
+pub mod Disk
+pub mod Format
+pub mod History
+pub mod Memory
+pub mod Opening
+pub mod Renew
+pub mod Runs
+pub mod Settled
+pub mod Written
