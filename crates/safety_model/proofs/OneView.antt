@@ -56,20 +56,3 @@ pub one_digest : (su : Setup) (h : History) (c : Config) → IsRun su h → faul
 one_digest su h c run bound v s d d' a b =
     let both = two_quorums su.byzantine c (λ j. has (is_prepared j c.number v s d) h) (λ j. has (is_prepared j c.number v s d') h) bound a b in
     prepared_once su h run both.0 c.number v s d d' (prepared_stands both.0 c.number v s d h both.2) (prepared_stands both.0 c.number v s d' h both.3)
-
--- what is prepared is so in the view that its member is inside of
-prepared_view : (su : Setup) (h : History) → IsRun su h → (i e v s : ℕ) (d : List ℕ) → Stands h (Prepared i e v s d) → v ≡ 0
-prepared_view su h run i e v s d st =
-    let m = moment su h (Prepared i e v s d) run st in
-    sym (prepared_rules su m.at i e v s d m.allowed).inside
-
-certified_view : (su : Setup) (h : History) (c : Config) → IsRun su h → faulty su.byzantine c ≤ bound_of c → (v s : ℕ) (d : List ℕ) → IsCertified su h c v s d → v ≡ 0
-certified_view su h c run bound v s d a =
-    let k = two_quorums su.byzantine c (λ j. has (is_prepared j c.number v s d) h) (λ j. has (is_prepared j c.number v s d) h) bound a a in
-    prepared_view su h run k.0 c.number v s d (prepared_stands k.0 c.number v s d h k.2)
-
--- two certificates of one number have one digest: no member has left view 0
-pub one_certificate : (su : Setup) (h : History) (c : Config) → IsRun su h → faulty su.byzantine c ≤ bound_of c → (v v' s : ℕ) (d d' : List ℕ) → IsCertified su h c v s d → IsCertified su h c v' s d' → d ≡ d'
-one_certificate su h c run bound v v' s d d' a b =
-    let same : v' ≡ v = certified_view su h c run bound v' s d' b ∙ sym (certified_view su h c run bound v s d a) in
-    one_digest su h c run bound v s d d' a (subst (λ v. IsCertified su h c v s d') same b)
