@@ -7,6 +7,7 @@ mod blocks;
 mod fact;
 mod history;
 mod log;
+mod reports;
 #[cfg(test)]
 mod tests;
 mod widths;
