@@ -4,13 +4,14 @@ use Rattle.std.specs.Prelude.{◌==◌}
 use Rattle.std.specs.List.{AllByRecursion}
 use Rattle.std.proofs.lemmas.Bool.{and_parts, cases_lt, cases_order, eqb-true}
 use Rattle.std.proofs.lemmas.Option.{slice_get-get_or}
+use Rattle.ord_types.specs.Genesis.{genesis_block}
 use Rattle.ord_types.specs.Hashes.{block_hash}
 use Rattle.ord_types.specs.Members.{is_raft}
 use Rattle.safety_model.specs.Blocks.{Block, Config, are_lawful, change_in, config_at, config_or, follows_block, is_lawful}
 use Rattle.safety_model.specs.Facts.{Proof, Fact, History, has, is_prepared}
 use Rattle.safety_model.specs.State.{Setup, block_or, config_of, delivered, height, last_delivered, tip}
 use Rattle.safety_model.specs.Rules.{Allowed, IsRun, bound_of, faulty, first_broken, is_bft_proof, tests}
-use Rattle.safety_model.specs.Safety.{AllFit, AreLawful, AreLinked, IsPrefixOf, IsProvedAt, NoCollision, RunsAgree}
+use Rattle.safety_model.specs.Safety.{AllFit, AreLawful, AreLinked, IsGenesis, IsPrefixOf, IsProvedAt, NoCollision, RunsAgree}
 use Rattle.safety_model.proofs.RuleFacts.{delivered_rules}
 use Rattle.safety_model.proofs.OneView.{IsCertified, one_digest, prepared_accepted, prepared_stands}
 use Rattle.safety_model.proofs.Quorums.{two_quorums}
@@ -168,13 +169,18 @@ proved_at su h run i (suc k) pos lt =
       proved = rw sub-one pp.proved;
     }
 
+-- block 0 has number 0
+pub number_of_genesis : (su : Setup) → IsGenesis su → su.genesis.header.number ≡ 0
+unfolding genesis_block
+number_of_genesis su genesis = ap (λ (b : Block). b.header.number) genesis.block
+
 -- whatever was allowed, the ledgers agree
 pub runs_agree : RunsAgree
 runs_agree su h genesis run fit apart =
     record {
       prefixes = λ i j le.
           (let p = prefix_from_places su.genesis (delivered i h) (delivered j h) (omega arith)
-          (λ k lt. same_place (suc k) su h run (ap (λ (b : Block). b.header.number) genesis.block) genesis.bft fit apart i j k (omega arith) lt (omega arith)) in
+          (λ k lt. same_place (suc k) su h run (number_of_genesis su genesis) genesis.bft fit apart i j k (omega arith) lt (omega arith)) in
           (p.0, ap (λ (bs : List Block). su.genesis ∷ bs) p.1));
       chain = λ i. (genesis.block, chained su h run i);
       lawful = λ i. all_lawful su h run i;

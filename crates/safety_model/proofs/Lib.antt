@@ -13,3 +13,5 @@ pub mod Agreeing
 pub mod Histories
 pub mod ToldVotes
 pub mod Pairs
+pub mod Chosen
+pub mod ViewLaws

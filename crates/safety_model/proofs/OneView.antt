@@ -5,6 +5,7 @@ use Rattle.safety_model.specs.Facts.{History, has, Stands, is_accepted, is_accep
 use Rattle.safety_model.specs.declared.fact.Fact.TheVariants.{Accepted, Prepared}
 use Rattle.safety_model.specs.State.{Setup}
 use Rattle.safety_model.specs.Rules.{Allowed, HasQuorum, IsRun, bound_of, faulty}
+pub use Rattle.safety_model.specs.Views.{IsCertified}
 use Rattle.safety_model.proofs.Quorums.{two_quorums}
 use Rattle.safety_model.proofs.Moments.{stands_later, moment, order, found, has_found}
 use Rattle.safety_model.proofs.FactTests.{prepared_is, accepted_is, accepted_at_itself}
@@ -46,10 +47,6 @@ prepared_accepted su h run i e v s d p =
 pub prepared_once : (su : Setup) (h : History) → IsRun su h → (i e v s : ℕ) (d d' : List ℕ) → Stands h (Prepared i e v s d) → Stands h (Prepared i e v s d') → d ≡ d'
 prepared_once su h run i e v s d d' a b =
     accepted_once su h run i e v s d d' (prepared_accepted su h run i e v s d a) (prepared_accepted su h run i e v s d' b)
-
--- a quorum prepared the digest
-abbrev pub IsCertified : Setup → History → Config → ℕ → ℕ → List ℕ → Type 0
-IsCertified su h c v s d = HasQuorum su.byzantine c (λ j. has (is_prepared j c.number v s d) h)
 
 -- two certificates of one view and number have one digest
 pub one_digest : (su : Setup) (h : History) (c : Config) → IsRun su h → faulty su.byzantine c ≤ bound_of c → (v s : ℕ) (d d' : List ℕ) → IsCertified su h c v s d → IsCertified su h c v s d' → d ≡ d'

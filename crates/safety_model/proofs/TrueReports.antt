@@ -119,7 +119,7 @@ greater_new u us (Some w) =
       | inr n ↦ record { vote = w; is = rw n; least = (let lt = leb-false w.view u.view n in omega arith) }
     ]
 
-told_stands : (i e s : ℕ) (h : History) (w : Vote) → prepared_at i e s h ≡ Some w → Stands h (Prepared i e w.view s w.digest)
+pub told_stands : (i e s : ℕ) (h : History) (w : Vote) → prepared_at i e s h ≡ Some w → Stands h (Prepared i e w.view s w.digest)
 told_stands i e s [] w is = (cc)
 told_stands i e s (f ∷ h) w is =
     elim (greater_cases (prepared_votes i e s f) (prepared_at i e s h) w is) [
@@ -139,7 +139,7 @@ greatest i e v s d h st =
     let a = at_least i e v s d h st in
     record { vote = a.vote; is = a.is; least = a.least; stands = told_stands i e s h a.vote a.is }
 
-told_same : (a : Option Vote) (w : Vote) → is_told a (Some w) ≡ true → a ≡ Some w
+pub told_same : (a : Option Vote) (w : Vote) → is_told a (Some w) ≡ true → a ≡ Some w
 told_same None w h = (cc)
 told_same (Some a) w h = ap (λ x. Some x) (vote_same a w h)
 
@@ -233,7 +233,7 @@ any_append test (x ∷ xs) ys h =
       | inr n ↦ elim (any_append test xs ys n) [ inl l ↦ inl (or_right (test x) (list_any test xs) l) | inr r ↦ inr r ]
     ]
 
-any_take : (test : Vote → Bool) (n : ℕ) (xs : List Vote) → list_any test (take n xs) ≡ true → list_any test xs ≡ true
+pub any_take : (test : Vote → Bool) (n : ℕ) (xs : List Vote) → list_any test (take n xs) ≡ true → list_any test xs ≡ true
 any_take test zero xs h = (cc)
 any_take test (suc n) [] h = (cc)
 any_take test (suc n) (x ∷ xs) h =
@@ -242,7 +242,7 @@ any_take test (suc n) (x ∷ xs) h =
       | inr r ↦ or_right (test x) (list_any test xs) (any_take test n xs r)
     ]
 
-accepted_told : (i e s : ℕ) (h : History) (test : Vote → Bool) → list_any test (accepted_at i e s h) ≡ true → AcceptedVote h i e s test
+pub accepted_told : (i e s : ℕ) (h : History) (test : Vote → Bool) → list_any test (accepted_at i e s h) ≡ true → AcceptedVote h i e s test
 accepted_told i e s [] test t = absurd (cc)
 accepted_told i e s (f ∷ h) test t =
     elim (any_append test (accepted_votes i e s f) (accepted_at i e s h) t) [

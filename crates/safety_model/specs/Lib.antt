@@ -1,4 +1,5 @@
 pub mod Blocks
+pub mod Choosing
 pub mod Facts
 pub mod Log
 pub mod Queries
@@ -6,3 +7,4 @@ pub mod Reports
 pub mod Rules
 pub mod Safety
 pub mod State
+pub mod Views
