@@ -1,5 +1,5 @@
 -- What the reports of one new view choose (Castro and Liskov 2002, on reports that tell views).
-use Rattle.std.specs.Prelude.{◌≡◌, ℕ, ◌+◌, ◌≤◌, ◌<◌, Bool, false, ◌&&◌, not, ◌==◌, nat_lt, nat_le, max, List, [], ◌∷◌, length, map, Some, IsTrue, if◌then◌else◌, ⊤, ◌⊎◌}
+use Rattle.std.specs.Prelude.{◌≡◌, ℕ, ◌+◌, ◌≤◌, ◌<◌, Bool, false, ◌&&◌, ◌||◌, not, ◌==◌, nat_lt, nat_le, max, List, [], ◌∷◌, length, map, Some, IsTrue, if◌then◌else◌, ⊤}
 use Rattle.std.specs.Cmp.Lexicographic.{slice_cmp}
 use Rattle.std.specs.List.{list_any}
 use Rattle.std.specs.Ordering.{is_lt, nat_cmp}
@@ -37,14 +37,14 @@ passes n x rs vote =
     is_told_at x vote rs
     && (nat_le (quorum n) (heard x (tells_at_most vote) rs) && nat_lt (fault_bound n) (heard x (tells_accepted vote) rs))
 
--- the first vote is of a lower view, or of the same view and its digest doesn't come before
-abbrev pub IsNoBetter : Vote → Vote → Type 0
-IsNoBetter other vote = (other.view < vote.view) ⊎ ((other.view ≡ vote.view) × (is_before other.digest vote.digest ≡ false))
+-- the first vote is of a greater view, or of the same view and its digest comes before
+abbrev pub is_better : Vote → Vote → Bool
+is_better a b = nat_lt b.view a.view || ((a.view == b.view) && is_before a.digest b.digest)
 
 -- Reports of height x choose the passing preparation of the greatest view, and then of the least digest. Where none
 -- passes, the choice is free if at least a quorum tells no preparation, and else there is no choice yet.
 abbrev pub IsChoice : ℕ → ℕ → List Report → Choice → Type 0
-IsChoice n x rs (Carry vote) = IsTrue (passes n x rs vote) × ((other : Vote) → IsTrue (passes n x rs other) → IsNoBetter other vote)
+IsChoice n x rs (Carry vote) = IsTrue (passes n x rs vote) × ((other : Vote) → IsTrue (passes n x rs other) → is_better other vote ≡ false)
 IsChoice n x rs Free = ((other : Vote) → passes n x rs other ≡ false) × (quorum n ≤ heard x tells_none rs)
 IsChoice n x rs Neither = ((other : Vote) → passes n x rs other ≡ false) × (heard x tells_none rs < quorum n)
 

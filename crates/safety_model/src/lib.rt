@@ -15,8 +15,9 @@ mod tests;
 mod widths;
 
 pub use blocks::{has_room, have_room, is_next};
-pub use fact::Fact;
+pub use fact::{Fact, Telling};
 pub use log::{FactLog, FactRefusal};
+pub use reports::tells;
 
 /// Whatever correct nodes did by the rules, in whatever order, with Byzantine members up to the bound:
 /// their ledgers are prefixes of one chain, whose blocks are lawful and proved. This is the theorem over all
