@@ -92,8 +92,8 @@ pub heard_more : (x : ℕ) (tells : Report → Bool) (rs : List Report) (r : Rep
 heard_more x tells [] r = omega arith
 heard_more x tells (y ∷ ys) r = (let rest = heard_more x tells ys r in omega arith)
 
-pub height_step : (ss : List Signed) (i : ℕ) (s : Signed) (n m : ℕ) → i < length ss → s ≡ get_or ss i s → n ≡ told_height (reports_in (take i ss)) → m ≡ max n s.report.height → m ≡ told_height (reports_in (take (i + 1) ss))
-height_step ss i s n m lt is inv new =
+pub heights_more : (ss : List Signed) (i : ℕ) (s : Signed) → i < length ss → s ≡ get_or ss i s → told_height (reports_in (take (i + 1) ss)) ≡ max s.report.height (told_height (reports_in (take i ss)))
+heights_more ss i s lt is =
     let more = ap told_height (reports_more ss i s lt is) ∙ height_more (reports_in (take i ss)) s.report in
     omega arith
 
