@@ -1,5 +1,3 @@
-use Rattle.std.proofs.Common.{◌∙◌, ap}
-use Rattle.view_changer.specs.Choices.{better_of}
 use Rattle.view_changer.proofs.ChoiceLemmas.{best_step}
 use Rattle.view_changer.proofs.choice.best_of.Goals as goal
 
