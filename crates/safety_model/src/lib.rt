@@ -12,6 +12,8 @@ mod log;
 mod reports;
 #[cfg(test)]
 mod tests;
+#[cfg(test)]
+mod view_tests;
 mod widths;
 
 pub use blocks::{has_room, have_room, is_next};
