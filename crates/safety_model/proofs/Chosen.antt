@@ -1,17 +1,16 @@
 -- What a quorum's reports choose is supported by the facts.
 use Rattle.std.proofs.Common.{◌≡◌, ℕ, ◌+◌, ◌≤◌, Bool, true, false, ◌||◌, ◌&&◌, cond, List, [], ◌∷◌, length, map, refl, inl, inr, arith}
 use Rattle.std.specs.Prelude.{◌==◌, ⊤, not, nat_le, nat_lt}
-use Rattle.std.specs.List.{list_any}
 use Rattle.std.proofs.lemmas.Bool.{and_parts, and_from, or_left, or_right, or_parts, eqb-true, eq-eqb, leb-true, ltb-true, le-leb, lt-ltb, cases_Bool, not-true, not_from_false}
-use Rattle.ord_types.specs.Members.{fault_bound, how_many, is_in, quorum}
+use Rattle.ord_types.specs.Members.{how_many, is_in, quorum}
 use Rattle.safety_model.specs.Blocks.{Config}
-use Rattle.safety_model.specs.Facts.{Report, Choice, History, has, is_reported}
+use Rattle.safety_model.specs.Facts.{Report, History, has, is_reported}
 use Rattle.ord_types.specs.declared.values.Choice.TheVariants.{Carry, Free, Neither}
 use Rattle.safety_model.specs.declared.fact.Fact.TheVariants.{Reported}
 use Rattle.safety_model.specs.State.{Setup, height, last_delivered}
 use Rattle.safety_model.specs.Reports.{tells_none, tells_at_most, tells_accepted}
-use Rattle.safety_model.specs.Rules.{IsRun, bound_of, faulty, quorum_of, reporters, is_supported, is_last_certified_in}
-use Rattle.safety_model.specs.Choosing.{Told, heard, Chooses, ChoicesAreSupported, AreDifferent, AreReports, is_told_at, passes, reports_of}
+use Rattle.safety_model.specs.Rules.{bound_of, quorum_of, reporters, is_last_certified_in}
+use Rattle.safety_model.specs.Choosing.{Told, heard, ChoicesAreSupported, AreDifferent, AreReports, is_told_at, passes, reports_of}
 use Rattle.safety_model.proofs.Quorums.{one_less}
 use Rattle.safety_model.proofs.Moments.{now, has_found}
 use Rattle.safety_model.proofs.Views.{accepter}

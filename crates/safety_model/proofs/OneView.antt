@@ -1,10 +1,10 @@
 -- One view: what a member accepts and prepares there, and that two certificates have one digest.
-use Rattle.std.proofs.Common.{◌≡◌, ℕ, ◌≤◌, true, List, sym, ◌∙◌, subst, inl, inr}
+use Rattle.std.proofs.Common.{◌≡◌, ℕ, ◌≤◌, true, List, subst, inl, inr}
 use Rattle.safety_model.specs.Blocks.{Config}
 use Rattle.safety_model.specs.Facts.{History, has, Stands, is_accepted, is_accepted_at, is_prepared}
 use Rattle.safety_model.specs.declared.fact.Fact.TheVariants.{Accepted, Prepared}
 use Rattle.safety_model.specs.State.{Setup}
-use Rattle.safety_model.specs.Rules.{Allowed, HasQuorum, IsRun, bound_of, faulty}
+use Rattle.safety_model.specs.Rules.{Allowed, IsRun, bound_of, faulty}
 pub use Rattle.safety_model.specs.Views.{IsCertified}
 use Rattle.safety_model.proofs.Quorums.{two_quorums}
 use Rattle.safety_model.proofs.Moments.{stands_later, moment, order, found, has_found}

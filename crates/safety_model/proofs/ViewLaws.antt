@@ -1,15 +1,13 @@
 -- The laws of views: nothing falls, reports stay true, and certified digests are carried on.
-use Rattle.std.proofs.Common.{◌≡◌, ℕ, ◌+◌, ◌≤◌, ◌<◌, Bool, true, false, ◌&&◌, cond, ◌⊎◌, List, [], ◌∷◌, ◌++◌, take, length, length-append, refl, sym, ap, subst, ◌∙◌, inl, inr, arith, Option, Some, None}
+use Rattle.std.proofs.Common.{◌≡◌, ℕ, Bool, true, false, ◌&&◌, cond, ◌⊎◌, List, [], ◌∷◌, ◌++◌, take, length-append, refl, sym, ap, subst, inl, inr, arith, Option, Some, None}
 use Rattle.std.specs.List.{list_all, list_any}
 use Rattle.std.specs.Prelude.{◌==◌, not, nat_lt}
 use Rattle.std.proofs.lemmas.Bool.{and_from, and_parts, cases_Bool, eqb-true, ltb-false, not-true, or_parts}
-use Rattle.ord_types.specs.Members.{is_raft}
-use Rattle.safety_model.specs.Blocks.{Block, Config}
-use Rattle.safety_model.specs.Facts.{Vote, Report, Fact, History, Stands, is_accepted_at}
+use Rattle.safety_model.specs.Facts.{Vote, Fact, History, Stands, is_accepted_at}
 use Rattle.safety_model.specs.declared.fact.Fact.TheVariants.{Accepted, Prepared, Left, Reported, Entered, Delivered}
 use Rattle.safety_model.specs.Reports.{accepted_at, accepted_votes, is_told, prepared_at, told_limit, vote_eq}
 use Rattle.safety_model.specs.Rules.{Allowed, IsRun}
-use Rattle.safety_model.specs.State.{Setup, config_of, delivered, delivered_by, height, view}
+use Rattle.safety_model.specs.State.{Setup, delivered, delivered_by, height}
 use Rattle.safety_model.specs.Views.{AcceptancesFall, CertifiedIsCarriedOn, NothingFalls, ReportsStayTrue}
 use Rattle.safety_model.proofs.Agreeing.{number_of_genesis}
 use Rattle.safety_model.proofs.Chains.{config_stays}
@@ -17,7 +15,7 @@ use Rattle.safety_model.proofs.Deliveries.{IsOnlyConfig}
 use Rattle.safety_model.proofs.Moments.{has_found, moment, stands_later}
 use Rattle.safety_model.proofs.FactTests.{accepted_at_itself}
 use Rattle.safety_model.proofs.RuleFacts.{accepted_rules, reported_rules}
-use Rattle.safety_model.proofs.TrueReports.{accepted_reached, accepted_told, any_take, prepared_reached, tells_prepared, told_same, told_stands, true_report, vote_same}
+use Rattle.safety_model.proofs.TrueReports.{accepted_reached, accepted_told, any_take, prepared_reached, tells_prepared, told_stands, true_report, vote_same}
 use Rattle.safety_model.proofs.Views.{carried_on}
 
 pub nothing_falls : NothingFalls

@@ -116,8 +116,18 @@ fn who_left_is_not_inside(rt: HostRuntime) -> Result<(), NoMemory> {
 #[test]
 fn rules_of_leaving(rt: HostRuntime) -> Result<(), NoMemory> {
     let (mut log, _) = log_of_four(rt.alloc(), Mode::Normal, &[4])?;
-    assert!(rt; leave_so(&mut log, &[(4, 0, 1, 1), (5, 0, 1, 3), (1, 1, 1, 4), (1, 0, 0, 10)]));
-    assert!(rt; leave_so(&mut log, &[(1, 0, 1, 0), (1, 0, 1, 10), (1, 0, 3, 0), (1, 0, 2, 10)]));
+    assert!(rt;
+        leave_so(
+            &mut log,
+            &[(4, 0, 1, 1), (5, 0, 1, 3), (1, 1, 1, 4), (1, 0, 0, 10)]
+        )
+    );
+    assert!(rt;
+        leave_so(
+            &mut log,
+            &[(1, 0, 1, 0), (1, 0, 1, 10), (1, 0, 3, 0), (1, 0, 2, 10)]
+        )
+    );
     let (mut above, _) = log_of_four(rt.alloc(), Mode::Normal, &[3, 4])?;
     assert!(rt; leave_so(&mut above, &[(1, 0, 1, 2)]));
     Ok(())
@@ -139,7 +149,12 @@ fn rules_of_reports(rt: HostRuntime) -> Result<(), NoMemory> {
     let one = vote(0, A);
     let of_others = [(4, 0, 2, 1, 1), (5, 0, 2, 1, 3), (2, 0, 2, 1, 11)];
     assert!(rt; report_so(alloc, &mut log, Some(one), &[one], &of_others)?);
-    let of_one = [(1, 1, 2, 1, 4), (1, 0, 1, 1, 11), (1, 0, 2, 2, 12), (1, 0, 2, 1, 0)];
+    let of_one = [
+        (1, 1, 2, 1, 4),
+        (1, 0, 1, 1, 11),
+        (1, 0, 2, 2, 12),
+        (1, 0, 2, 1, 0),
+    ];
     assert!(rt; report_so(alloc, &mut log, Some(one), &[one], &of_one)?);
     Ok(())
 }
@@ -169,7 +184,13 @@ fn report_all(
 ) -> Result<bool, NoMemory> {
     let left = leave_so(log, &[(1, 0, view, 0), (2, 0, view, 0), (3, 0, view, 0)]);
     let first = report_so(alloc, log, prepared, votes, &[(1, 0, view, 1, 0)])?;
-    let others = report_so(alloc, log, None, votes, &[(2, 0, view, 1, 0), (3, 0, view, 1, 0)])?;
+    let others = report_so(
+        alloc,
+        log,
+        None,
+        votes,
+        &[(2, 0, view, 1, 0), (3, 0, view, 1, 0)],
+    )?;
     Ok(left && first && others)
 }
 
@@ -178,9 +199,19 @@ fn rules_of_free_entries(rt: HostRuntime) -> Result<(), NoMemory> {
     let (mut log, _) = log_of_four(rt.alloc(), Mode::Normal, &[4])?;
     assert!(rt; report_all(rt.alloc(), &mut log, 2, None, &[])?);
     assert!(rt; leave_so(&mut log, &[(2, 0, 3, 0)]));
-    let kept = [(4, 0, 2, 1, 1), (1, 1, 2, 1, 4), (1, 0, 0, 1, 13), (1, 0, 1, 1, 13)];
+    let kept = [
+        (4, 0, 2, 1, 1),
+        (1, 1, 2, 1, 4),
+        (1, 0, 0, 1, 13),
+        (1, 0, 1, 1, 13),
+    ];
     assert!(rt; enter_so(&mut log, Choice::Free, &kept));
-    let unmet = [(2, 0, 2, 1, 13), (1, 0, 2, 2, 13), (1, 0, 2, 0, 14), (1, 0, 3, 1, 14)];
+    let unmet = [
+        (2, 0, 2, 1, 13),
+        (1, 0, 2, 2, 13),
+        (1, 0, 2, 0, 14),
+        (1, 0, 3, 1, 14),
+    ];
     assert!(rt; enter_so(&mut log, Choice::Free, &unmet));
     assert!(rt; enter_so(&mut log, Choice::Neither, &[(1, 0, 2, 1, 14)]));
     assert!(rt; enter_so(&mut log, Choice::Carry(vote(0, A)), &[(1, 0, 2, 1, 14)]));
@@ -200,8 +231,19 @@ fn rules_of_carrying_entries(rt: HostRuntime) -> Result<(), NoMemory> {
     assert!(rt; enter_so(&mut log, Choice::Free, &[(1, 0, 1, 1, 14)]));
     assert!(rt; enter_so(&mut log, Choice::Carry(vote(0, B)), &[(1, 0, 1, 1, 14)]));
     assert!(rt; enter_so(&mut log, Choice::Carry(vote(1, A)), &[(1, 0, 1, 1, 14)]));
-    assert!(rt; enter_so(&mut log, Choice::Carry(one), &[(1, 0, 2, 1, 14), (1, 0, 1, 1, 0)]));
-    assert!(rt; accept_so(&mut log, &[(1, 0, A, 6), (1, 1, B, 8), (1, 1, A, 0), (1, 1, A, 7)]));
+    assert!(rt;
+        enter_so(
+            &mut log,
+            Choice::Carry(one),
+            &[(1, 0, 2, 1, 14), (1, 0, 1, 1, 0)]
+        )
+    );
+    assert!(rt;
+        accept_so(
+            &mut log,
+            &[(1, 0, A, 6), (1, 1, B, 8), (1, 1, A, 0), (1, 1, A, 7)]
+        )
+    );
     Ok(())
 }
 

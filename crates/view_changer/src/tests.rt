@@ -54,7 +54,13 @@ fn three(alloc: Global, a: Content, b: Content, c: Content) -> Result<List<Signe
 }
 
 // The reports of members 1 to 4.
-fn four(alloc: Global, a: Content, b: Content, c: Content, d: Content) -> Result<List<Signed>, NoMemory>
+fn four(
+    alloc: Global,
+    a: Content,
+    b: Content,
+    c: Content,
+    d: Content,
+) -> Result<List<Signed>, NoMemory>
     ensures { IfOk result (λ reports. signers_in reports ≡ 1 ∷ 2 ∷ 3 ∷ 4 ∷ []) }
 {
     let mut reports = List::new(alloc);
@@ -106,7 +112,8 @@ fn accepts(content: &Content, vote: &Vote) -> bool {
 fn contradicts(content: &Content, vote: &Vote) -> bool {
     match content.prepared {
         None => false,
-        Some(told) => told.view > vote.view || (told.view == vote.view && told.digest != vote.digest),
+        Some(told) => told.view > vote.view
+            || (told.view == vote.view && told.digest != vote.digest),
     }
 }
 
@@ -120,9 +127,8 @@ fn passes(contents: &[Content], height: u64, vote: &Vote) -> bool {
         .iter()
         .filter(|content| content.height == height && accepts(content, vote))
         .count();
-    let prepared = contents
-        .iter()
-        .any(|content| content.height == height && content.prepared == Some(*vote));
+    let prepared = contents.iter().any(|content| content.height == height
+        && content.prepared == Some(*vote));
     prepared && least >= 3 && accepted >= 2
 }
 
@@ -191,8 +197,12 @@ fn four_agree(alloc: Global, first: u64, second: u64) -> Result<bool, NoMemory> 
     let mut agree = true;
     for third in second..CONTENTS {
         for fourth in third..CONTENTS {
-            let contents =
-                [content_of(first), content_of(second), content_of(third), content_of(fourth)];
+            let contents = [
+                content_of(first),
+                content_of(second),
+                content_of(third),
+                content_of(fourth),
+            ];
             let reports = four(alloc, contents[0], contents[1], contents[2], contents[3])?;
             agree = agree && choose(4, &reports) == slow_choice(&contents);
         }
