@@ -17,8 +17,10 @@ use Rattle.ord_types.specs.declared.values.Proof.{Proof}
 use Rattle.ord_types.specs.declared.values.Proof.TheVariants as proof_of
 use Rattle.safety_model.specs.Blocks.{Request, change_in, config_at}
 use Rattle.safety_model.specs.Facts.{History, has}
-use Rattle.safety_model.specs.State.{Setup, config_of, delivered, height, last_delivered, block_or}
+use Rattle.safety_model.specs.State.{Setup, config_of, delivered, height, last_delivered, left, block_or, view}
+use Rattle.safety_model.specs.declared.fact.Fact.{Fact}
 use Rattle.safety_model.specs.declared.fact.Fact.TheVariants.{Accepted, Prepared, Delivered}
+use Rattle.safety_model.proofs.StateFacts.{moves, views_stay}
 use Rattle.signer_edge.specs.Accepts.{Accepts}
 use Rattle.bft_wire.specs.declared.reason.Reason.{Reason}
 use Rattle.bft_wire.specs.declared.reason.Reason.TheVariants as reason
@@ -45,6 +47,9 @@ unfolding change_in
 start_stays s [] = refl
 start_stays s (b ∷ bs) = start_stays s bs
 
+config_same : (c : Config) (bs cs : List Block) → config_at c bs ≡ config_at c cs
+config_same c bs cs = config_stays c bs ∙ sym (config_stays c cs)
+
 self : (n : ℕ) → eqb n n ≡ true
 self n = eq-eqb n n refl
 
@@ -70,16 +75,23 @@ tests true false true true true false false sg a b c d x y = refl
 near_test : (n s : ℕ) → (not (ltb n s) && not (ltb (s + 1) n)) ≡ (eqb n s || eqb n (s + 1))
 near_test n s = grind (arith, nat_tests)
 
-inside_test : (v : ℕ) → (eqb v 0 && leb 0 0) ≡ (eqb 0 v && leb 0 v)
-inside_test v = grind (arith, nat_tests)
+inside_test : (v now left : ℕ) → (eqb v now && leb left now) ≡ (eqb now v && leb left v)
+inside_test v now left = grind (arith, nat_tests)
+
+-- the view that node i is in, and the one that it left for, under the configuration in force for it
+abbrev view_in_force : Setup → ℕ → History → ℕ
+view_in_force su i h = view i (config_of su i h).number h
+
+abbrev left_in_force : Setup → ℕ → History → ℕ
+left_in_force su i h = left i (config_of su i h).number h
 
 -- what a node keeps of its view stands as it does at this place
 record Stands (su : Setup) (i : ℕ) (h : History) (ms : List Letter) (place : Place) (w : View) : Type 0 where
   config_is : place.config ≡ config_of su i h
   height_is : place.height ≡ height i h
-  view_is : w.view ≡ 0
-  left_is : w.left ≡ 0
-  kept_is : w.kept ≡ reverse (filter (is_of_view (config_of su i h).number 0 (height i h)) (firsts ms))
+  view_is : w.view ≡ view_in_force su i h
+  left_is : w.left ≡ left_in_force su i h
+  kept_is : w.kept ≡ reverse (filter (is_of_view (config_of su i h).number (view_in_force su i h) (height i h)) (firsts ms))
 
 timely_test : (su : Setup) (i : ℕ) (h : History) (ms : List Letter) (accepts : Accepts) (place : Place) (w : View) (letter : Letter) → Stands su i h ms place w
     → (is_none (first_reason (stands_outside place w letter)) && is_signed accepts letter.from letter.message) ≡ is_timely su i h accepts letter
@@ -88,11 +100,13 @@ timely_test su i h ms accepts place w letter stands =
     let v = view_in letter.message in
     let n = number_in letter.message in
     let s = height i h in
+    let now = view_in_force su i h in
+    let gone = left_in_force su i h in
     let sg = is_signed accepts letter.from letter.message in
     rw (stands.config_is, stands.height_is, stands.view_is, stands.left_is)
-    (tests (is_in letter.from c.members) (is_raft c) (eqb (config_in letter.message) c.number) (eqb v 0) (leb 0 0) (ltb n s) (ltb (s + 1) n) sg
+    (tests (is_in letter.from c.members) (is_raft c) (eqb (config_in letter.message) c.number) (eqb v now) (leb gone now) (ltb n s) (ltb (s + 1) n) sg
     reason.NotMember reason.OtherConfig reason.OtherView reason.Leaving reason.OldNumber reason.FarNumber
-    ∙ ap₂ (λ a b. is_in letter.from c.members && not (is_raft c) && (eqb (config_in letter.message) c.number) && a && b && sg) (inside_test v) (near_test n s))
+    ∙ ap₂ (λ a b. is_in letter.from c.members && not (is_raft c) && (eqb (config_in letter.message) c.number) && a && b && sg) (inside_test v now gone) (near_test n s))
 
 new_test : (x sg rep t : Bool) → (x && sg) ≡ t → (x && sg && not rep) ≡ (t && not rep)
 new_test true true rep t is = ap (λ b. b && not rep) is
@@ -109,49 +123,51 @@ view_parts true false false x y n sg z is to = absurd (cc)
 view_parts true true e x y n sg z is to = absurd (cc)
 view_parts false r e x y n sg z is to = absurd (cc)
 
-swapped : (v : ℕ) → eqb 0 v ≡ true → eqb v 0 ≡ true
-swapped v is = grind (arith, nat_tests)
+swapped : (now v : ℕ) → eqb now v ≡ true → eqb v now ≡ true
+swapped now v is = grind (arith, nat_tests)
 
-timely_of_view : (su : Setup) (i : ℕ) (h : History) (accepts : Accepts) (l : Letter) → is_timely su i h accepts l ≡ true → is_of_view (config_of su i h).number 0 (height i h) l ≡ true
+timely_of_view : (su : Setup) (i : ℕ) (h : History) (accepts : Accepts) (l : Letter) → is_timely su i h accepts l ≡ true → is_of_view (config_of su i h).number (view_in_force su i h) (height i h) l ≡ true
 timely_of_view su i h accepts l is =
     let c = config_of su i h in
     let v = view_in l.message in
-    view_parts (is_in l.from c.members) (is_raft c) (eqb (config_in l.message) c.number) (eqb 0 v) (leb 0 v) (is_near (height i h) l) (is_signed accepts l.from l.message) (eqb v 0) is (swapped v)
+    let now = view_in_force su i h in
+    view_parts (is_in l.from c.members) (is_raft c) (eqb (config_in l.message) c.number) (eqb now v) (leb (left_in_force su i h) v) (is_near (height i h) l) (is_signed accepts l.from l.message) (eqb v now) is (swapped now v)
 
 -- ONE MORE MESSAGE
 
 -- those of a view near a height that are kept of letters, the newest first
-abbrev held : ℕ → ℕ → List Letter → List Letter
-held e s ms = reverse (filter (is_of_view e 0 s) (firsts ms))
+abbrev held : ℕ → ℕ → ℕ → List Letter → List Letter
+held e v s ms = reverse (filter (is_of_view e v s) (firsts ms))
 
-one_more : (e s : ℕ) (l : Letter) (ms : List Letter) (rep : Bool) → is_of_view e 0 s l ≡ true → list_any (same_slot l) ms ≡ rep
-    → cond (not rep) (held e s ms ++ l ∷ []) (held e s ms) ≡ reverse (filter (is_of_view e 0 s) (cond rep (firsts ms) (l ∷ firsts ms)))
-one_more e s l ms true near is = refl
-one_more e s l ms false near is =
-    sym (reverse-cons l (filter (is_of_view e 0 s) (firsts ms))) ∙ ap (λ b. reverse (cond b (l ∷ filter (is_of_view e 0 s) (firsts ms)) (filter (is_of_view e 0 s) (firsts ms)))) (sym near)
+one_more : (e v s : ℕ) (l : Letter) (ms : List Letter) (rep : Bool) → is_of_view e v s l ≡ true → list_any (same_slot l) ms ≡ rep
+    → cond (not rep) (held e v s ms ++ l ∷ []) (held e v s ms) ≡ reverse (filter (is_of_view e v s) (cond rep (firsts ms) (l ∷ firsts ms)))
+one_more e v s l ms true near is = refl
+one_more e v s l ms false near is =
+    sym (reverse-cons l (filter (is_of_view e v s) (firsts ms))) ∙ ap (λ b. reverse (cond b (l ∷ filter (is_of_view e v s) (firsts ms)) (filter (is_of_view e v s) (firsts ms)))) (sym near)
 
 kept_if : (b : Bool) (w : View) (l : Letter) → cond b (keep l w) w ≡ record w { kept = cond b (w.kept ++ l ∷ []) w.kept }
 kept_if true w l = refl
 kept_if false w l = refl
 
 -- the test of the letter decides whether it is held
-by_test : (e s : ℕ) (l : Letter) (ms : List Letter) (t rep : Bool) → (t ≡ true → is_of_view e 0 s l ≡ true) → (t ≡ true → list_any (same_slot l) ms ≡ rep)
-    → cond (t && not rep) (held e s ms ++ l ∷ []) (held e s ms) ≡ held e s (cond t (l ∷ []) [] ++ ms)
-by_test e s l ms true rep near is = one_more e s l ms rep (near refl) (is refl) ∙ ap (λ b. reverse (filter (is_of_view e 0 s) (cond b (firsts ms) (l ∷ firsts ms)))) (sym (is refl))
-by_test e s l ms false rep near is = refl
+by_test : (e v s : ℕ) (l : Letter) (ms : List Letter) (t rep : Bool) → (t ≡ true → is_of_view e v s l ≡ true) → (t ≡ true → list_any (same_slot l) ms ≡ rep)
+    → cond (t && not rep) (held e v s ms ++ l ∷ []) (held e v s ms) ≡ held e v s (cond t (l ∷ []) [] ++ ms)
+by_test e v s l ms true rep near is = one_more e v s l ms rep (near refl) (is refl) ∙ ap (λ b. reverse (filter (is_of_view e v s) (cond b (firsts ms) (l ∷ firsts ms)))) (sym (is refl))
+by_test e v s l ms false rep near is = refl
 
 letter_kept : (su : Setup) (i : ℕ) (h : History) (ms : List Letter) (accepts : Accepts) (place : Place) (w : View) (l : Letter) → Stands su i h ms place w
-    → kept_after accepts place w l ≡ record w { kept = held (config_of su i h).number (height i h) (filter (is_timely su i h accepts) (l ∷ []) ++ ms) }
+    → kept_after accepts place w l ≡ record w { kept = held (config_of su i h).number (view_in_force su i h) (height i h) (filter (is_timely su i h accepts) (l ∷ []) ++ ms) }
 letter_kept su i h ms accepts place w l stands =
     let e = (config_of su i h).number in
+    let v = view_in_force su i h in
     let s = height i h in
     let t = is_timely su i h accepts l in
     let rep = is_repeat w l in
     let new : is_new accepts place w l ≡ (t && not rep) =
     new_test (is_none (first_reason (stands_outside place w l))) (is_signed accepts l.from l.message) rep t (timely_test su i h ms accepts place w l stands) in
     let taken : t ≡ true → list_any (same_slot l) ms ≡ rep =
-    λ is. sym (ap (λ ls. list_any (same_slot l) ls) stands.kept_is ∙ any-kept e 0 s l ms (timely_of_view su i h accepts l is)) in
-    let more = by_test e s l ms t rep (timely_of_view su i h accepts l) taken in
+    λ is. sym (ap (λ ls. list_any (same_slot l) ls) stands.kept_is ∙ any-kept e v s l ms (timely_of_view su i h accepts l is)) in
+    let more = by_test e v s l ms t rep (timely_of_view su i h accepts l) taken in
     ap (λ b. cond b (keep l w) w) new ∙ kept_if (t && not rep) w l
     ∙ ap (λ ls. record w { kept = cond (t && not rep) (ls ++ l ∷ []) ls }) stands.kept_is
     ∙ ap (λ ls. record w { kept = ls }) more
@@ -164,7 +180,8 @@ stands_now su i past = record { config_is = refl; height_is = refl; view_is = re
 
 -- what the node holds of its view, where these letters came in time
 abbrev view_with : Setup → ℕ → Past → List Letter → View
-view_with su i past ms = record (view_of su i past) { kept = held (config_of su i (facts_of past)).number (height i (facts_of past)) ms }
+view_with su i past ms =
+    record (view_of su i past) { kept = held (config_of su i (facts_of past)).number (view_in_force su i (facts_of past)) (height i (facts_of past)) ms }
 
 view_came : (su : Setup) (i : ℕ) (past : Past) (accepts : Accepts) (l : Letter) (b : Bool) → eqb l.from i ≡ b
     → view_with su i past (filter (is_timely su i (facts_of past) accepts) (of_another i (Some l)) ++ timely su i past)
@@ -230,36 +247,46 @@ place_prepared su i j e v s d h = ap (λ bs. record (place_of su i h) { config =
 same_place_test : (i e v s : ℕ) → (eqb i i && eqb e e && eqb v v && eqb s s) ≡ true
 same_place_test i e v s = grind (arith, nat_tests)
 
--- the view with another configuration and height
-abbrev view_at : Setup → ℕ → Config → ℕ → Past → View
-view_at su i c s past =
+-- the view with another configuration, view, left view and height
+abbrev view_at : Setup → ℕ → Config → ℕ → ℕ → ℕ → Past → View
+view_at su i c v l s past =
     record {
       me = i;
       config = c.number;
       members = c.members;
       height = s;
-      view = 0;
-      left = 0;
-      accepted = accepted_block i c.number 0 s past;
-      is_prepared = has (is_prepared_at i c.number 0 s) (facts_of past);
-      kept = held c.number s (timely su i past);
+      view = v;
+      left = l;
+      accepted = accepted_block i c.number v s past;
+      is_prepared = has (is_prepared_at i c.number v s) (facts_of past);
+      kept = held c.number v s (timely su i past);
     }
 
-view_by_blocks : (su : Setup) (i : ℕ) (past : Past) (bs : List Block) → delivered i (facts_of past) ≡ bs → view_of su i past ≡ view_at su i (config_at su.config bs) (length bs + 1) past
+-- one more fact leaves the view alone, where it neither leaves nor enters one
+view_by_blocks : (su : Setup) (i : ℕ) (past : Past) (f : Fact) (o : Option Block) (bs : List Block) → moves i f ≡ false → delivered i (f ∷ facts_of past) ≡ bs
+    → view_of su i (Did f o ∷ past)
+    ≡ view_at su i (config_at su.config bs) (view_in_force su i (facts_of past)) (left_in_force su i (facts_of past)) (length bs + 1) (Did f o ∷ past)
 unfolding view_of
-view_by_blocks su i past bs is = ap (λ bs. view_at su i (config_at su.config bs) (length bs + 1) past) is
+view_by_blocks su i past f o bs still is =
+    let h = facts_of past in
+    let now = Did f o ∷ past in
+    let same : config_at su.config bs ≡ config_of su i h = config_same su.config bs (delivered i h) in
+    let stay = views_stay i (config_of su i h).number f h still in
+    ap (λ bs. view_at su i (config_at su.config bs) (view i (config_at su.config bs).number (f ∷ h)) (left i (config_at su.config bs).number (f ∷ h)) (length bs + 1) now) is
+    ∙ ap₂ (λ v l. view_at su i (config_at su.config bs) v l (length bs + 1) now)
+    (ap (λ (c : Config). view i c.number (f ∷ h)) same ∙ stay.0) (ap (λ (c : Config). left i c.number (f ∷ h)) same ∙ stay.1)
 
-view_accepted : (su : Setup) (i e v s : ℕ) (b : Block) (d : List ℕ) (past : Past) → e ≡ (config_of su i (facts_of past)).number → v ≡ 0 → s ≡ height i (facts_of past)
+view_accepted : (su : Setup) (i e v s : ℕ) (b : Block) (d : List ℕ) (past : Past) → e ≡ (config_of su i (facts_of past)).number → v ≡ view_in_force su i (facts_of past) → s ≡ height i (facts_of past)
     → view_of su i (Did (Accepted i e v s d) (Some b) ∷ past) ≡ record (view_of su i past) { accepted = Some b }
 unfolding view_of
 view_accepted su i e v s b d past ise isv iss =
     let h = facts_of past in
     let c = config_of su i h in
-    let now = Did (Accepted i e v s d) (Some b) ∷ past in
-    view_by_blocks su i now (delivered i h) (append-nil (delivered i h))
-    ∙ ap (λ t. record (view_of su i past) { accepted = cond t (Some b) (accepted_block i c.number 0 (height i h) past) })
-    (ap (λ e. eqb i i && eqb e c.number && eqb v 0 && eqb s (height i h)) ise ∙ ap (λ v. eqb i i && eqb c.number c.number && eqb v 0 && eqb s (height i h)) isv
-    ∙ ap (λ s. eqb i i && eqb c.number c.number && eqb 0 0 && eqb s (height i h)) iss ∙ same_place_test i c.number 0 (height i h))
+    let now = view_in_force su i h in
+    view_by_blocks su i past (Accepted i e v s d) (Some b) (delivered i h) refl (append-nil (delivered i h))
+    ∙ ap (λ t. record (view_of su i past) { accepted = cond t (Some b) (accepted_block i c.number now (height i h) past) })
+    (ap (λ e. eqb i i && eqb e c.number && eqb v now && eqb s (height i h)) ise ∙ ap (λ v. eqb i i && eqb c.number c.number && eqb v now && eqb s (height i h)) isv
+    ∙ ap (λ s. eqb i i && eqb c.number c.number && eqb now now && eqb s (height i h)) iss ∙ same_place_test i c.number now (height i h))
 
 pub config_here : (su : Setup) (i : ℕ) (past : Past) → (place_of su i (facts_of past)).config.number ≡ (config_of su i (facts_of past)).number
 unfolding place_of
@@ -269,7 +296,7 @@ pub height_here : (su : Setup) (i : ℕ) (past : Past) → (place_of su i (facts
 unfolding place_of
 height_here su i past = refl
 
-pub view_here : (su : Setup) (i : ℕ) (past : Past) → (view_of su i past).view ≡ 0
+pub view_here : (su : Setup) (i : ℕ) (past : Past) → (view_of su i past).view ≡ view_in_force su i (facts_of past)
 unfolding view_of
 view_here su i past = refl
 
@@ -284,17 +311,17 @@ seen_accepts b n =
 
 -- PREPARING
 
-view_prepared : (su : Setup) (i e v s : ℕ) (d : List ℕ) (past : Past) → e ≡ (config_of su i (facts_of past)).number → v ≡ 0 → s ≡ height i (facts_of past)
+view_prepared : (su : Setup) (i e v s : ℕ) (d : List ℕ) (past : Past) → e ≡ (config_of su i (facts_of past)).number → v ≡ view_in_force su i (facts_of past) → s ≡ height i (facts_of past)
     → view_of su i (Did (Prepared i e v s d) None ∷ past) ≡ record (view_of su i past) { is_prepared = true }
 unfolding view_of
 view_prepared su i e v s d past ise isv iss =
     let h = facts_of past in
     let c = config_of su i h in
-    let now = Did (Prepared i e v s d) None ∷ past in
-    view_by_blocks su i now (delivered i h) (append-nil (delivered i h))
-    ∙ ap (λ t. record (view_of su i past) { is_prepared = t || has (is_prepared_at i c.number 0 (height i h)) h })
-    (ap (λ e. eqb i i && eqb e c.number && eqb v 0 && eqb s (height i h)) ise ∙ ap (λ v. eqb i i && eqb c.number c.number && eqb v 0 && eqb s (height i h)) isv
-    ∙ ap (λ s. eqb i i && eqb c.number c.number && eqb 0 0 && eqb s (height i h)) iss ∙ same_place_test i c.number 0 (height i h))
+    let now = view_in_force su i h in
+    view_by_blocks su i past (Prepared i e v s d) None (delivered i h) refl (append-nil (delivered i h))
+    ∙ ap (λ t. record (view_of su i past) { is_prepared = t || has (is_prepared_at i c.number now (height i h)) h })
+    (ap (λ e. eqb i i && eqb e c.number && eqb v now && eqb s (height i h)) ise ∙ ap (λ v. eqb i i && eqb c.number c.number && eqb v now && eqb s (height i h)) isv
+    ∙ ap (λ s. eqb i i && eqb c.number c.number && eqb now now && eqb s (height i h)) iss ∙ same_place_test i c.number now (height i h))
 
 view_signed : (su : Setup) (i : ℕ) (past : Past) (accepts : Accepts) (m : Commit)
     → view_of su i (Signed m accepts ∷ past) ≡ kept_after accepts (place_of su i (facts_of past)) (view_of su i past) (own_commit i m)
@@ -328,9 +355,6 @@ place_by su bs last =
       last_cert = cert_of_last last;
     }
 
-config_same : (c : Config) (bs cs : List Block) → config_at c bs ≡ config_at c cs
-config_same c bs cs = config_stays c bs ∙ sym (config_stays c cs)
-
 place_delivered : (su : Setup) (i : ℕ) (b : Block) (cert : Cert) (h : History) → place_of su i (Delivered i b (proof_of.Bft cert) ∷ h) ≡ next_place (place_of su i h) b cert
 unfolding place_of
 place_delivered su i b cert h =
@@ -341,9 +365,9 @@ place_delivered su i b cert h =
     ∙ ap (λ k. record (next_place (place_of su i h) b cert) { height = k + 1 }) (length_push bs b)
 
 -- a view with nothing but these
-abbrev view_fields : ℕ → Config → ℕ → Option Block → Bool → List Letter → View
-view_fields i c s accepted prepared letters =
-    record { me = i; config = c.number; members = c.members; height = s; view = 0; left = 0; accepted = accepted; is_prepared = prepared; kept = letters }
+abbrev view_fields : ℕ → Config → ℕ → ℕ → ℕ → Option Block → Bool → List Letter → View
+view_fields i c v l s accepted prepared letters =
+    record { me = i; config = c.number; members = c.members; height = s; view = v; left = l; accepted = accepted; is_prepared = prepared; kept = letters }
 
 same_config : (c : Config) → (eqb c.number c.number && bytes_eq c.members c.members) ≡ true
 same_config c = and_from (eqb c.number c.number) (bytes_eq c.members c.members) (self c.number) ((bytes_eq-Decides c.members c.members).1 refl)
@@ -362,37 +386,41 @@ at_next su i past b cert =
 
 raised_is : (su : Setup) (i : ℕ) (past : Past) (b : Block) (cert : Cert)
     → raised (next_place (place_of su i (facts_of past)) b cert) (view_of su i past)
-    ≡ view_fields i (config_of su i (facts_of past)) (height i (facts_of past) + 1) None false (filter (is_near (height i (facts_of past) + 1)) (held (config_of su i (facts_of past)).number (height i (facts_of past)) (timely su i past)))
+    ≡ view_fields i (config_of su i (facts_of past)) (view_in_force su i (facts_of past)) (left_in_force su i (facts_of past)) (height i (facts_of past) + 1) None false
+    (filter (is_near (height i (facts_of past) + 1)) (held (config_of su i (facts_of past)).number (view_in_force su i (facts_of past)) (height i (facts_of past)) (timely su i past)))
 unfolding place_of view_of
 raised_is su i past b cert = refl
 
 higher_view : (su : Setup) (i : ℕ) (past : Past) (b : Block) (p : Proof)
-    → view_of su i (Did (Delivered i b p) None ∷ past) ≡ view_at su i (config_of su i (facts_of past)) (height i (facts_of past) + 1) (Did (Delivered i b p) None ∷ past)
+    → view_of su i (Did (Delivered i b p) None ∷ past)
+    ≡ view_at su i (config_of su i (facts_of past)) (view_in_force su i (facts_of past)) (left_in_force su i (facts_of past)) (height i (facts_of past) + 1) (Did (Delivered i b p) None ∷ past)
 higher_view su i past b p =
+    let h = facts_of past in
     let now = Did (Delivered i b p) None ∷ past in
-    let bs = delivered i (facts_of past) in
-    view_by_blocks su i now (bs ++ b ∷ []) (ap (λ t. bs ++ cond t (b ∷ []) []) (self i))
-    ∙ ap₂ (λ c s. view_at su i c s now) (config_same su.config (bs ++ b ∷ []) bs) (ap (λ k. k + 1) (length_push bs b))
+    let bs = delivered i h in
+    view_by_blocks su i past (Delivered i b p) None (bs ++ b ∷ []) refl (ap (λ t. bs ++ cond t (b ∷ []) []) (self i))
+    ∙ ap₂ (λ c s. view_at su i c (view_in_force su i h) (left_in_force su i h) s now) (config_same su.config (bs ++ b ∷ []) bs) (ap (λ k. k + 1) (length_push bs b))
 
-emptied : (n : PastNode) (c : Config) → NothingAhead n
-    → view_fields n.id c (height n.id (facts_of n.past) + 1) None false (filter (is_near (height n.id (facts_of n.past) + 1)) (held c.number (height n.id (facts_of n.past)) (timely n.setup n.id n.past)))
-    ≡ view_fields n.id c (height n.id (facts_of n.past) + 1) (accepted_block n.id c.number 0 (height n.id (facts_of n.past) + 1) n.past)
-    (has (is_prepared_at n.id c.number 0 (height n.id (facts_of n.past) + 1)) (facts_of n.past)) (held c.number (height n.id (facts_of n.past) + 1) (timely n.setup n.id n.past))
-emptied n c ahead =
+emptied : (n : PastNode) (c : Config) (v l : ℕ) → NothingAhead n
+    → view_fields n.id c v l (height n.id (facts_of n.past) + 1) None false (filter (is_near (height n.id (facts_of n.past) + 1)) (held c.number v (height n.id (facts_of n.past)) (timely n.setup n.id n.past)))
+    ≡ view_fields n.id c v l (height n.id (facts_of n.past) + 1) (accepted_block n.id c.number v (height n.id (facts_of n.past) + 1) n.past)
+    (has (is_prepared_at n.id c.number v (height n.id (facts_of n.past) + 1)) (facts_of n.past)) (held c.number v (height n.id (facts_of n.past) + 1) (timely n.setup n.id n.past))
+emptied n c v l ahead =
     let i = n.id in
     let s = height i (facts_of n.past) in
     let above : s < s + 1 = omega arith in
     let ms = timely n.setup i n.past in
-    ap₂ (λ a p. view_fields i c (s + 1) a p (filter (is_near (s + 1)) (held c.number s ms))) (sym (ahead.accepted c.number 0 (s + 1) above)) (sym (ahead.prepared c.number 0 (s + 1) above))
-    ∙ ap (λ ls. view_fields i c (s + 1) (accepted_block i c.number 0 (s + 1) n.past) (has (is_prepared_at i c.number 0 (s + 1)) (facts_of n.past)) ls)
-    (kept_next c.number 0 s (firsts ms) (all-firsts (IsAtMost (s + 1)) ms ahead.timely))
+    ap₂ (λ a p. view_fields i c v l (s + 1) a p (filter (is_near (s + 1)) (held c.number v s ms))) (sym (ahead.accepted c.number v (s + 1) above)) (sym (ahead.prepared c.number v (s + 1) above))
+    ∙ ap (λ ls. view_fields i c v l (s + 1) (accepted_block i c.number v (s + 1) n.past) (has (is_prepared_at i c.number v (s + 1)) (facts_of n.past)) ls)
+    (kept_next c.number v s (firsts ms) (all-firsts (IsAtMost (s + 1)) ms ahead.timely))
 
 view_delivered : (n : PastNode) (b : Block) (cert : Cert) → NothingAhead n
     → view_of n.setup n.id (Did (Delivered n.id b (proof_of.Bft cert)) None ∷ n.past) ≡ at_place (next_place (past_place n) b cert) (past_view n)
 view_delivered n b cert ahead =
     let su = n.setup in
     let i = n.id in
-    higher_view su i n.past b (proof_of.Bft cert) ∙ sym (emptied n (config_of su i (facts_of n.past)) ahead) ∙ sym (raised_is su i n.past b cert) ∙ sym (at_next su i n.past b cert)
+    let h = facts_of n.past in
+    higher_view su i n.past b (proof_of.Bft cert) ∙ sym (emptied n (config_of su i h) (view_in_force su i h) (left_in_force su i h) ahead) ∙ sym (raised_is su i n.past b cert) ∙ sym (at_next su i n.past b cert)
 
 pub seen_delivers : (b : Block) (cert : Cert) (n : PastNode) → NothingAhead n → core_of_past (past_delivers b cert n) ≡ core_delivers b cert (core_of_past n)
 seen_delivers b cert n ahead = ap₂ core_with (place_delivered n.setup n.id b cert (facts_of n.past)) (view_delivered n b cert ahead)

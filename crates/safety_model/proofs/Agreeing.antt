@@ -2,21 +2,39 @@
 use Rattle.std.proofs.Common.{◌≡◌, ℕ, zero, suc, ◌+◌, ◌≤◌, ◌<◌, Bool, true, false, List, [], ◌∷◌, ◌++◌, length, get_or, take, refl, sym, ap, subst, ◌∙◌, inl, inr, arith, append-nil, sub-one, cond, Some, None}
 use Rattle.std.specs.Prelude.{◌==◌}
 use Rattle.std.specs.List.{AllByRecursion}
-use Rattle.std.proofs.lemmas.Bool.{and_parts, cases_lt, eqb-true}
+use Rattle.std.proofs.lemmas.Bool.{and_parts, cases_lt, cases_order, eqb-true}
 use Rattle.std.proofs.lemmas.Option.{slice_get-get_or}
+use Rattle.ord_types.specs.Genesis.{genesis_block}
 use Rattle.ord_types.specs.Hashes.{block_hash}
 use Rattle.ord_types.specs.Members.{is_raft}
 use Rattle.safety_model.specs.Blocks.{Block, Config, are_lawful, change_in, config_at, config_or, follows_block, is_lawful}
-use Rattle.safety_model.specs.Facts.{Proof, Fact, History}
+use Rattle.safety_model.specs.Facts.{Proof, Fact, History, has, is_prepared}
 use Rattle.safety_model.specs.State.{Setup, block_or, config_of, delivered, height, last_delivered, tip}
-use Rattle.safety_model.specs.Rules.{Allowed, IsRun, first_broken, is_bft_proof, tests}
-use Rattle.safety_model.specs.Safety.{AllFit, AreLawful, AreLinked, IsPrefixOf, IsProvedAt, NoCollision, RunsAgree}
+use Rattle.safety_model.specs.Rules.{Allowed, IsRun, bound_of, faulty, first_broken, is_bft_proof, tests}
+use Rattle.safety_model.specs.Safety.{AllFit, AreLawful, AreLinked, IsGenesis, IsPrefixOf, IsProvedAt, NoCollision, RunsAgree}
 use Rattle.safety_model.proofs.RuleFacts.{delivered_rules}
-use Rattle.safety_model.proofs.OneView.{IsCertified, one_certificate}
-use Rattle.safety_model.proofs.Deliveries.{adds, delivered_bound, delivered_certified, or_other, proof_later}
+use Rattle.safety_model.proofs.OneView.{IsCertified, one_digest, prepared_accepted, prepared_stands}
+use Rattle.safety_model.proofs.Quorums.{two_quorums}
+use Rattle.safety_model.proofs.Views.{carried_on}
+use Rattle.safety_model.proofs.Deliveries.{IsOnlyConfig, adds, delivered_bound, delivered_certified, or_other, proof_later}
 use Rattle.safety_model.proofs.Deliveries.Adds.{Nothing, One}
 use Rattle.safety_model.proofs.Chains.{AgreeBelow, Place, config_stays, only_config, place, take_alike}
 use Rattle.safety_model.proofs.Texts.{same_block}
+
+-- two certificates of one number have one digest, whatever their views
+pub one_certificate : (su : Setup) (h : History) (c : Config) → IsRun su h → su.genesis.header.number ≡ 0 → IsOnlyConfig su c h → is_raft c ≡ false → faulty su.byzantine c ≤ bound_of c → (v v' s : ℕ) (d d' : List ℕ) → IsCertified su h c v s d → IsCertified su h c v' s d' → d ≡ d'
+one_certificate su h c run zero' only bft bound v v' s d d' a b =
+    elim (cases_order v v') [
+      | inl same ↦ one_digest su h c run bound v s d d' a (subst (λ v. IsCertified su h c v s d') (sym same) b)
+      | inr (inl lt) ↦ sym (above v v' d d' lt a b)
+      | inr (inr gt) ↦ above v' v d' d gt b a
+    ]
+  where
+    above : (v v' : ℕ) (d d' : List ℕ) → v < v' → IsCertified su h c v s d → IsCertified su h c v' s d' → d' ≡ d
+    above v v' d d' lt a b =
+        let k = two_quorums su.byzantine c (λ j. has (is_prepared j c.number v' s d') h) (λ j. has (is_prepared j c.number v' s d') h) bound b b in
+        let prepared = prepared_stands k.0 c.number v' s d' h k.2 in
+        carried_on su h c run zero' only bft bound v v' s k.0 d d' lt a (prepared_accepted su h run k.0 c.number v' s d' prepared)
 
 -- what holds at a place: the block's number, and the configuration and the proof there
 pub record AtPlace (su : Setup) (h : History) (i k : ℕ) (c : Config) (b : Block) (proof : Proof) : Type 0 where
@@ -43,10 +61,10 @@ at_place su h i k p =
     }
 
 -- two nodes have one block at a place, by induction on places
-pub same_place : (n : ℕ) (su : Setup) (h : History) → IsRun su h → is_raft su.config ≡ false → AllFit h → NoCollision su h → AgreeBelow su h n
-same_place zero su h run bft fit apart i j r lt li lj = absurd (omega arith)
-same_place (suc n) su h run bft fit apart i j k lt li lj =
-    let below = same_place n su h run bft fit apart in
+pub same_place : (n : ℕ) (su : Setup) (h : History) → IsRun su h → su.genesis.header.number ≡ 0 → is_raft su.config ≡ false → AllFit h → NoCollision su h → AgreeBelow su h n
+same_place zero su h run number bft fit apart i j r lt li lj = absurd (omega arith)
+same_place (suc n) su h run number bft fit apart i j k lt li lj =
+    let below = same_place n su h run number bft fit apart in
     elim (cases_lt k n) [
       | inl less ↦ below i j k less li lj
       | inr more ↦
@@ -68,7 +86,7 @@ same_place (suc n) su h run bft fit apart i j k lt li lj =
           let a' : IsCertified su h c va (suc k) (block_hash p.block) = subst (λ n. IsCertified su h c va n (block_hash p.block)) pp.number a.2 in
           let b' : IsCertified su h c vb (suc k) (block_hash q.block) = subst (λ n. IsCertified su h c vb n (block_hash q.block)) qq.number b.2 in
           let bound = delivered_bound su h c run only kind i p.block p.cert p.stands pp.under in
-          let one : block_hash p.block ≡ block_hash q.block = one_certificate su h c run bound va vb (suc k) (block_hash p.block) (block_hash q.block) a' b' in
+          let one : block_hash p.block ≡ block_hash q.block = one_certificate su h c run number only kind bound va vb (suc k) (block_hash p.block) (block_hash q.block) a' b' in
           let rp = delivered_rules su p.at i p.block p.cert p.allowed in
           let rq = delivered_rules su q.at j q.block q.cert q.allowed in
           let tp = tip su i p.at in let tq = tip su j q.at in
@@ -151,13 +169,18 @@ proved_at su h run i (suc k) pos lt =
       proved = rw sub-one pp.proved;
     }
 
+-- block 0 has number 0
+pub number_of_genesis : (su : Setup) → IsGenesis su → su.genesis.header.number ≡ 0
+unfolding genesis_block
+number_of_genesis su genesis = ap (λ (b : Block). b.header.number) genesis.block
+
 -- whatever was allowed, the ledgers agree
 pub runs_agree : RunsAgree
 runs_agree su h genesis run fit apart =
     record {
       prefixes = λ i j le.
           (let p = prefix_from_places su.genesis (delivered i h) (delivered j h) (omega arith)
-          (λ k lt. same_place (suc k) su h run genesis.bft fit apart i j k (omega arith) lt (omega arith)) in
+          (λ k lt. same_place (suc k) su h run (number_of_genesis su genesis) genesis.bft fit apart i j k (omega arith) lt (omega arith)) in
           (p.0, ap (λ (bs : List Block). su.genesis ∷ bs) p.1));
       chain = λ i. (genesis.block, chained su h run i);
       lawful = λ i. all_lawful su h run i;

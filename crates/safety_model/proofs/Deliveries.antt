@@ -8,7 +8,7 @@ use Rattle.ord_types.specs.Members.{how_many_in, is_in, is_raft}
 use Rattle.ord_types.specs.declared.values.Proof.TheVariants as proof_of
 use Rattle.safety_model.specs.Blocks.{Block, Config}
 use Rattle.safety_model.specs.Facts.{Cert, Proof, Fact, History, has, Stands, is_prepared, signers_of}
-use Rattle.safety_model.specs.declared.fact.Fact.TheVariants.{Accepted, Prepared, Delivered}
+use Rattle.safety_model.specs.declared.fact.Fact.TheVariants.{Accepted, Prepared, Left, Reported, Entered, Delivered}
 use Rattle.safety_model.specs.State.{Setup, block_or, config_of, delivered_by, height, last_delivered, last_or, tip}
 use Rattle.safety_model.specs.Rules.{Allowed, HasQuorum, IsRun, bound_of, faulty, is_bft_proof, is_proof, quorum_of}
 use Rattle.safety_model.proofs.Quorums.{how_many_more}
@@ -118,6 +118,9 @@ pub adds : (i : ℕ) (f : Fact) → Adds i f
 adds i (Delivered j b c) = adds_cases i j b c (j == i) refl
 adds i (Accepted j e v s d) = Nothing refl (λ last. refl)
 adds i (Prepared j e v s d) = Nothing refl (λ last. refl)
+adds i (Left j e v) = Nothing refl (λ last. refl)
+adds i (Reported j e v r) = Nothing refl (λ last. refl)
+adds i (Entered j e v x choice) = Nothing refl (λ last. refl)
 
 abbrev cert_or : Proof → Option (Block × Proof) → Proof
 cert_or cert None = cert

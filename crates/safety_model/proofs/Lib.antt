@@ -5,7 +5,13 @@ pub mod RuleFacts
 pub mod OneView
 pub mod StateFacts
 pub mod Deliveries
+pub mod TrueReports
+pub mod Views
 pub mod Chains
 pub mod Texts
 pub mod Agreeing
 pub mod Histories
+pub mod ToldVotes
+pub mod Pairs
+pub mod Chosen
+pub mod ViewLaws

@@ -25,6 +25,10 @@ pub now : (h : History) → WasOnce h h
 now [] = refl
 now (f ∷ h) = inl refl
 
+-- what was once so of a history that once was
+pub once_once : (f g h : History) → WasOnce f g → WasOnce g h → WasOnce f h
+once_once f g h a b = later (WasOnce f) (λ _ _ p. inr p) g h b a
+
 pub stands_later : (f : Fact) (g h : History) → WasOnce g h → Stands g f → Stands h f
 stands_later f g h e p = later (λ h. Stands h f) (λ f' h p. inr p) g h e p
 

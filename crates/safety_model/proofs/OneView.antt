@@ -1,10 +1,11 @@
 -- One view: what a member accepts and prepares there, and that two certificates have one digest.
-use Rattle.std.proofs.Common.{◌≡◌, ℕ, ◌≤◌, true, List, sym, ◌∙◌, subst, inl, inr}
+use Rattle.std.proofs.Common.{◌≡◌, ℕ, ◌≤◌, true, List, subst, inl, inr}
 use Rattle.safety_model.specs.Blocks.{Config}
 use Rattle.safety_model.specs.Facts.{History, has, Stands, is_accepted, is_accepted_at, is_prepared}
 use Rattle.safety_model.specs.declared.fact.Fact.TheVariants.{Accepted, Prepared}
 use Rattle.safety_model.specs.State.{Setup}
-use Rattle.safety_model.specs.Rules.{Allowed, HasQuorum, IsRun, bound_of, faulty}
+use Rattle.safety_model.specs.Rules.{Allowed, IsRun, bound_of, faulty}
+pub use Rattle.safety_model.specs.Views.{IsCertified}
 use Rattle.safety_model.proofs.Quorums.{two_quorums}
 use Rattle.safety_model.proofs.Moments.{stands_later, moment, order, found, has_found}
 use Rattle.safety_model.proofs.FactTests.{prepared_is, accepted_is, accepted_at_itself}
@@ -47,29 +48,8 @@ pub prepared_once : (su : Setup) (h : History) → IsRun su h → (i e v s : ℕ
 prepared_once su h run i e v s d d' a b =
     accepted_once su h run i e v s d d' (prepared_accepted su h run i e v s d a) (prepared_accepted su h run i e v s d' b)
 
--- a quorum prepared the digest
-abbrev pub IsCertified : Setup → History → Config → ℕ → ℕ → List ℕ → Type 0
-IsCertified su h c v s d = HasQuorum su.byzantine c (λ j. has (is_prepared j c.number v s d) h)
-
 -- two certificates of one view and number have one digest
 pub one_digest : (su : Setup) (h : History) (c : Config) → IsRun su h → faulty su.byzantine c ≤ bound_of c → (v s : ℕ) (d d' : List ℕ) → IsCertified su h c v s d → IsCertified su h c v s d' → d ≡ d'
 one_digest su h c run bound v s d d' a b =
     let both = two_quorums su.byzantine c (λ j. has (is_prepared j c.number v s d) h) (λ j. has (is_prepared j c.number v s d') h) bound a b in
     prepared_once su h run both.0 c.number v s d d' (prepared_stands both.0 c.number v s d h both.2) (prepared_stands both.0 c.number v s d' h both.3)
-
--- what is prepared is so in the view that its member is inside of
-prepared_view : (su : Setup) (h : History) → IsRun su h → (i e v s : ℕ) (d : List ℕ) → Stands h (Prepared i e v s d) → v ≡ 0
-prepared_view su h run i e v s d st =
-    let m = moment su h (Prepared i e v s d) run st in
-    sym (prepared_rules su m.at i e v s d m.allowed).inside
-
-certified_view : (su : Setup) (h : History) (c : Config) → IsRun su h → faulty su.byzantine c ≤ bound_of c → (v s : ℕ) (d : List ℕ) → IsCertified su h c v s d → v ≡ 0
-certified_view su h c run bound v s d a =
-    let k = two_quorums su.byzantine c (λ j. has (is_prepared j c.number v s d) h) (λ j. has (is_prepared j c.number v s d) h) bound a a in
-    prepared_view su h run k.0 c.number v s d (prepared_stands k.0 c.number v s d h k.2)
-
--- two certificates of one number have one digest: no member has left view 0
-pub one_certificate : (su : Setup) (h : History) (c : Config) → IsRun su h → faulty su.byzantine c ≤ bound_of c → (v v' s : ℕ) (d d' : List ℕ) → IsCertified su h c v s d → IsCertified su h c v' s d' → d ≡ d'
-one_certificate su h c run bound v v' s d d' a b =
-    let same : v' ≡ v = certified_view su h c run bound v' s d' b ∙ sym (certified_view su h c run bound v s d a) in
-    one_digest su h c run bound v s d d' a (subst (λ v. IsCertified su h c v s d') same b)

@@ -1,7 +1,10 @@
 pub mod Blocks
+pub mod Choosing
 pub mod Facts
 pub mod Log
 pub mod Queries
+pub mod Reports
 pub mod Rules
 pub mod Safety
 pub mod State
+pub mod Views

@@ -1,8 +1,8 @@
 -- What a node's facts say of its state.
-use Rattle.std.specs.Prelude.{ℕ, ◌+◌, Bool, ◌&&◌, ◌==◌, nat_le, List, [], ◌∷◌, ◌++◌, length, Option, Some, None, if◌then◌else◌}
+use Rattle.std.specs.Prelude.{ℕ, ◌+◌, Bool, ◌&&◌, ◌==◌, nat_le, max, List, [], ◌∷◌, ◌++◌, length, Option, Some, None, if◌then◌else◌}
 use Rattle.safety_model.specs.Blocks.{Block, Config, config_at}
 use Rattle.safety_model.specs.Facts.{Proof, Fact, History}
-use Rattle.safety_model.specs.declared.fact.Fact.TheVariants.{Delivered}
+use Rattle.safety_model.specs.declared.fact.Fact.TheVariants.{Left, Entered, Delivered}
 
 -- what is fixed for a run: the first block and its configuration, and who may lie
 pub record Setup : Type 0 where
@@ -49,13 +49,25 @@ tip su i h = block_or su.genesis (last_delivered i h)
 abbrev pub config_of : Setup → ℕ → History → Config
 config_of su i h = config_at su.config (delivered i h)
 
--- the greatest view that it entered under configuration e, or 0: no fact enters a view yet
-abbrev pub view : ℕ → ℕ → History → ℕ
-view i e h = 0
+-- the view that a fact of the node enters under configuration e, or 0
+abbrev pub entered_view : ℕ → ℕ → Fact → ℕ
+entered_view i e (Entered j e' v x choice) = if (j == i) && (e' == e) then v else 0
+entered_view i e _ = 0
 
--- the greatest view that it left for under configuration e, or 0: no fact leaves a view yet
+-- the greatest view that it entered under configuration e, or 0
+abbrev pub view : ℕ → ℕ → History → ℕ
+view i e [] = 0
+view i e (f ∷ h) = max (entered_view i e f) (view i e h)
+
+-- the view that a fact of the node leaves for under configuration e, or 0
+abbrev pub left_view : ℕ → ℕ → Fact → ℕ
+left_view i e (Left j e' v) = if (j == i) && (e' == e) then v else 0
+left_view i e _ = 0
+
+-- the greatest view that it left for under configuration e, or 0
 abbrev pub left : ℕ → ℕ → History → ℕ
-left i e h = 0
+left i e [] = 0
+left i e (f ∷ h) = max (left_view i e f) (left i e h)
 
 -- it is inside view v
 abbrev pub is_inside : ℕ → ℕ → ℕ → History → Bool

@@ -4,12 +4,14 @@ ghost use Rattle.std.specs.Str.{bytes_eq};
 ghost use Rattle.std.specs.List.{list_all, list_any};
 ghost use Rattle.ord_types.specs.Members.{is_in, how_many};
 ghost use Rattle.safety_model.specs.Blocks.{Block};
-ghost use Rattle.safety_model.specs.Facts.{Proof, Sig, has, is_accepted, is_accepted_at, is_prepared};
-ghost use Rattle.safety_model.specs.State.{delivered_by, height, last_delivered, last_or, block_or};
-ghost use Rattle.safety_model.specs.Queries.{is_asked};
+ghost use Rattle.safety_model.specs.Facts.{Proof, Sig, has, is_accepted, is_accepted_at, is_prepared, is_reported, is_entered_against, carries_other};
+ghost use Rattle.safety_model.specs.State.{delivered_by, height, last_delivered, last_or, block_or, entered_view, view, left_view, left, is_inside};
+ghost use Rattle.safety_model.specs.Rules.{is_cert_of, is_last_certified_in};
+ghost use Rattle.safety_model.specs.Queries.{is_asked, tells};
 
-use crate::fact::{Fact, Query};
-use ord_types::{Block, Digest, Header, Sig};
+use crate::fact::{Fact, Query, Telling};
+use crate::reports::tells;
+use ord_types::{Block, Choice, Digest, Header, Proof, Sig};
 
 pub fn is_among(ids: &[u32], id: u32) -> bool
     ensures { result ≡ is_in id ids.now }
@@ -30,7 +32,7 @@ fn has_signed(sigs: &[Sig], id: u32) -> bool
     sigs.iter().any(|sig| is_by(sig, id))
 }
 
-fn same_digest(a: &Digest, b: &Digest) -> bool
+pub fn same_digest(a: &Digest, b: &Digest) -> bool
     ensures { result ≡ bytes_eq a.now b.now }
 {
     a == b
@@ -107,6 +109,71 @@ fn is_prepared_as(
     }
 }
 
+fn carries_another(choice: &Choice, digest: &Digest) -> bool
+    ensures { result ≡ carries_other digest.now choice.now }
+{
+    match choice {
+        Choice::Carry(vote) => !same_digest(&vote.digest, digest),
+        Choice::Free => false,
+        Choice::Neither => false,
+    }
+}
+
+fn is_entered_otherwise(
+    fact: &Fact,
+    member: u32,
+    config: u64,
+    view: u64,
+    number: u64,
+    digest: &Digest,
+) -> bool
+    ensures { result ≡ is_entered_against member config view number digest.now fact.now }
+{
+    match fact {
+        Fact::Entered {
+            member: by,
+            config: under,
+            view: in_view,
+            number: at,
+            choice,
+        } => {
+            *by == member
+                && *under == config
+                && *in_view == view
+                && *at == number
+                && carries_another(choice, digest)
+        }
+        _ => false,
+    }
+}
+
+fn is_reported_as(
+    fact: &Fact,
+    member: u32,
+    config: u64,
+    view: u64,
+    height: u64,
+    telling: &Telling,
+) -> bool
+    ensures { result ≡ is_reported member config view height (tells telling.now) fact.now }
+{
+    match fact {
+        Fact::Reported {
+            member: by,
+            config: under,
+            view: for_view,
+            report,
+        } => {
+            *by == member
+                && *under == config
+                && *for_view == view
+                && report.height == height
+                && tells(report, telling)
+        }
+        _ => false,
+    }
+}
+
 /// Whether the fact is one of the member's for which the query asks.
 fn is_answer(fact: &Fact, query: &Query, member: u32) -> bool
     ensures { result ≡ is_asked query.now member fact.now }
@@ -129,6 +196,18 @@ fn is_answer(fact: &Fact, query: &Query, member: u32) -> bool
             number,
             digest,
         } => is_prepared_as(fact, member, *config, *view, *number, digest),
+        Query::Against {
+            config,
+            view,
+            number,
+            digest,
+        } => is_entered_otherwise(fact, member, *config, *view, *number, digest),
+        Query::Told {
+            config,
+            view,
+            height,
+            telling,
+        } => is_reported_as(fact, member, *config, *view, *height, telling),
     }
 }
 
@@ -270,4 +349,116 @@ pub fn tip_of(facts: &[Fact], genesis: &Block, member: u32) -> Header
         tip = tip_after(fact, member, tip);
     }
     tip
+}
+
+/// The view that the fact enters for the member under the configuration, or 0.
+fn view_entered(fact: &Fact, member: u32, config: u64) -> u64
+    ensures { result ≡ entered_view member config fact.now }
+{
+    match fact {
+        Fact::Entered {
+            member: by,
+            config: under,
+            view,
+            ..
+        } => {
+            if *by == member && *under == config {
+                *view
+            } else {
+                0
+            }
+        }
+        _ => 0,
+    }
+}
+
+/// The greatest view that the member entered under the configuration, or 0.
+#[tactic(auto, using(crate::proofs::Histories::history_more))]
+pub fn view_of(facts: &[Fact], member: u32, config: u64) -> u64
+    ensures { result ≡ view member config (reverse facts.now) }
+{
+    let mut greatest = 0;
+    for fact in facts {
+        greatest = greatest.max(view_entered(fact, member, config));
+    }
+    greatest
+}
+
+/// The view that the fact leaves for, of the member under the configuration, or 0.
+fn view_left(fact: &Fact, member: u32, config: u64) -> u64
+    ensures { result ≡ left_view member config fact.now }
+{
+    match fact {
+        Fact::Left {
+            member: by,
+            config: under,
+            view,
+        } => {
+            if *by == member && *under == config {
+                *view
+            } else {
+                0
+            }
+        }
+        _ => 0,
+    }
+}
+
+/// The greatest view that the member left for under the configuration, or 0.
+#[tactic(auto, using(crate::proofs::Histories::history_more))]
+pub fn left_of(facts: &[Fact], member: u32, config: u64) -> u64
+    ensures { result ≡ left member config (reverse facts.now) }
+{
+    let mut greatest = 0;
+    for fact in facts {
+        greatest = greatest.max(view_left(fact, member, config));
+    }
+    greatest
+}
+
+/// Whether the member entered the view, and didn't leave it.
+pub fn is_inside_view(facts: &[Fact], member: u32, config: u64, view: u64) -> bool
+    ensures { result ≡ is_inside member config view (reverse facts.now) }
+{
+    view_of(facts, member, config) == view && left_of(facts, member, config) <= view
+}
+
+fn is_cert_of_view(proof: &Proof, view: u64) -> bool
+    ensures { result ≡ is_cert_of view proof.now }
+{
+    match proof {
+        Proof::Raft => false,
+        Proof::Bft(cert) => cert.view == view,
+    }
+}
+
+fn certified_after(fact: &Fact, member: u32, config: u64, view: u64, before: bool) -> bool
+    ensures { (last : Option (Block × Proof)) → before ≡ is_last_certified_in config view last → result ≡ is_last_certified_in config view (last_or member fact.now last) }
+{
+    match fact {
+        Fact::Delivered {
+            member: by,
+            block,
+            proof,
+        } => {
+            if *by == member {
+                block.meta.config == config && is_cert_of_view(proof, view)
+            } else {
+                before
+            }
+        }
+        _ => before,
+    }
+}
+
+/// Whether the member's last block was ordered under the configuration, with a certificate of the view.
+#[tactic(auto, using(crate::proofs::Histories::history_more))]
+pub fn is_certified_in(facts: &[Fact], member: u32, config: u64, view: u64) -> bool
+    ensures { result ≡ is_last_certified_in config view (last_delivered member (reverse facts.now)) }
+{
+    let mut certified = false;
+    for fact in facts {
+        certified = certified_after(fact, member, config, view, certified);
+    }
+    certified
 }

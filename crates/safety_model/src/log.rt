@@ -1,5 +1,5 @@
 //! A list of facts, each allowed by those before it.
-ghost use Rattle.std.specs.Prelude.{◌≡◌, ◌<◌, ◌≤◌, ◌^◌, ◌+◌, ℕ, ◌&&◌, ◌||◌, false, nat_le, length, [], ◌∷◌, OnOk, OnErr, IfOk, ◌↔◌, Some, Err};
+ghost use Rattle.std.specs.Prelude.{◌≡◌, ◌<◌, ◌≤◌, ◌^◌, ◌+◌, ℕ, ◌&&◌, ◌||◌, false, nat_le, nat_lt, length, [], ◌∷◌, OnOk, OnErr, IfOk, ◌↔◌, Some, Err};
 ghost use Rattle.std.specs.Prelude.{List as Items};
 ghost use Rattle.std.specs.List.{list_all};
 ghost use Rattle.ord_types.specs.Genesis.{genesis_block};
@@ -7,20 +7,23 @@ ghost use Rattle.ord_types.specs.Hashes.{block_hash};
 ghost use Rattle.ord_types.specs.Members.{is_raft, is_in, how_many_in, quorum};
 ghost use Rattle.safety_model.specs.Blocks.{is_next_at};
 ghost use Rattle.safety_model.specs.Facts.{has, is_prepared, signers_of};
-ghost use Rattle.safety_model.specs.Queries.{is_asked};
-ghost use Rattle.safety_model.specs.State.{tip};
-ghost use Rattle.safety_model.specs.Rules.{Allowed, IsRun, count, keeps_bound, is_bft_proof, is_proof, quorum_of, tests, tests_under, vote_tests, first_broken};
+ghost use Rattle.safety_model.specs.Queries.{is_asked, tells};
+ghost use Rattle.safety_model.specs.State.{height, left, tip, view};
+ghost use Rattle.safety_model.specs.Rules.{Allowed, IsRun, bound_of, count, keeps_bound, is_bft_proof, is_proof, is_supported, member_tests, quorum_of, reporters, tests, tests_under, vote_tests, first_broken};
 ghost use Rattle.safety_model.specs.declared.fact.Fact.TheVariants as kinds;
 ghost use Rattle.safety_model.specs.Safety.{NoCollision, Agreement};
 
-use crate::fact::{Fact, Query};
+use crate::fact::{Fact, Query, Telling};
 use crate::history::{
-    are_signers, count_of, faulty_of, has_fact, height_of, is_among, signed_of, tip_of,
+    are_signers, count_of, faulty_of, has_fact, height_of, is_among, is_certified_in,
+    is_inside_view, left_of, signed_of, tip_of, view_of,
 };
+use crate::reports::is_true;
 use crate::widths::fact_fits;
 use chan_config::is_next;
 use ord_types::{
-    Block, Cert, Config, Digest, List, NoMemory, Proof, block_hash, fault_bound, quorum,
+    Block, Cert, Choice, Config, Digest, List, NoMemory, Proof, Report, Vote, block_hash,
+    fault_bound, quorum,
 };
 use std::alloc::Global;
 use std::marker::Model;
@@ -133,8 +136,8 @@ impl FactLog {
                 config,
                 view,
                 number,
-                ..
-            } => self.broken_acceptance(*member, *config, *view, *number),
+                digest,
+            } => self.broken_acceptance(*member, *config, *view, *number, digest),
             Fact::Prepared {
                 member,
                 config,
@@ -142,6 +145,24 @@ impl FactLog {
                 number,
                 digest,
             } => self.broken_preparation(*member, *config, *view, *number, digest),
+            Fact::Left {
+                member,
+                config,
+                view,
+            } => self.broken_leaving(*member, *config, *view),
+            Fact::Reported {
+                member,
+                config,
+                view,
+                report,
+            } => self.broken_report(*member, *config, *view, report),
+            Fact::Entered {
+                member,
+                config,
+                view,
+                number,
+                choice,
+            } => self.broken_entry(*member, *config, *view, *number, choice),
             Fact::Delivered {
                 member,
                 block,
@@ -150,9 +171,9 @@ impl FactLog {
         }
     }
 
-    /// The first of rules 1 to 6 that an acceptance or a preparation breaks: they are the same for both.
-    fn broken_vote(&self, member: u32, config: u64, view: u64, number: u64) -> Option<u8>
-        ensures { result ≡ first_broken (vote_tests self.now.setup self.now.history self.now.setup.config member config view number) }
+    /// The first of rules 1 to 4 that a member's fact under a BFT configuration breaks.
+    fn broken_membership(&self, member: u32, config: u64) -> Option<u8>
+        ensures { result ≡ first_broken (member_tests self.now.setup self.now.setup.config member config) }
     {
         if is_among(self.byzantine.as_slice(), member) {
             return Some(1);
@@ -166,18 +187,35 @@ impl FactLog {
         if self.config.number != config {
             return Some(4);
         }
+        None
+    }
+
+    /// The first of rules 1 to 6 that an acceptance or a preparation breaks: they are the same for both.
+    fn broken_vote(&self, member: u32, config: u64, view: u64, number: u64) -> Option<u8>
+        ensures { result ≡ first_broken (vote_tests self.now.setup self.now.history self.now.setup.config member config view number) }
+    {
+        if let Some(rule) = self.broken_membership(member, config) {
+            return Some(rule);
+        }
         if number != height_of(self.facts.as_slice(), member) {
             return Some(5);
         }
-        if view != 0 {
+        if !is_inside_view(self.facts.as_slice(), member, config, view) {
             return Some(6);
         }
         None
     }
 
     /// The first rule that an acceptance breaks.
-    fn broken_acceptance(&self, member: u32, config: u64, view: u64, number: u64) -> Option<u8>
-        ensures { (d : Items ℕ) → result ≡ first_broken (tests_under self.now.setup self.now.history self.now.setup.config (kinds.Accepted member config view number d)) }
+    fn broken_acceptance(
+        &self,
+        member: u32,
+        config: u64,
+        view: u64,
+        number: u64,
+        digest: &Digest,
+    ) -> Option<u8>
+        ensures { result ≡ first_broken (tests_under self.now.setup self.now.history self.now.setup.config (kinds.Accepted member config view number digest.now)) }
     {
         if let Some(rule) = self.broken_vote(member, config, view, number) {
             return Some(rule);
@@ -189,6 +227,15 @@ impl FactLog {
         };
         if has_fact(self.facts.as_slice(), &there, member) {
             return Some(7);
+        }
+        let against = Query::Against {
+            config,
+            view,
+            number,
+            digest: *digest,
+        };
+        if has_fact(self.facts.as_slice(), &against, member) {
+            return Some(8);
         }
         None
     }
@@ -222,6 +269,81 @@ impl FactLog {
         None
     }
 
+    /// The first rule that leaving for a view breaks.
+    fn broken_leaving(&self, member: u32, config: u64, view: u64) -> Option<u8>
+        ensures { result ≡ first_broken (tests_under self.now.setup self.now.history self.now.setup.config (kinds.Left member config view)) }
+    {
+        if let Some(rule) = self.broken_membership(member, config) {
+            return Some(rule);
+        }
+        if view <= view_of(self.facts.as_slice(), member, config) {
+            return Some(10);
+        }
+        if view <= left_of(self.facts.as_slice(), member, config) {
+            return Some(10);
+        }
+        None
+    }
+
+    /// The first rule that a report breaks.
+    fn broken_report(&self, member: u32, config: u64, view: u64, report: &Report) -> Option<u8>
+        ensures { result ≡ first_broken (tests_under self.now.setup self.now.history self.now.setup.config (kinds.Reported member config view report.now)) }
+    {
+        if let Some(rule) = self.broken_membership(member, config) {
+            return Some(rule);
+        }
+        if view != left_of(self.facts.as_slice(), member, config) {
+            return Some(11);
+        }
+        if view <= view_of(self.facts.as_slice(), member, config) {
+            return Some(11);
+        }
+        if !is_true(self.facts.as_slice(), member, config, report) {
+            return Some(12);
+        }
+        None
+    }
+
+    /// The first rule that an entry breaks.
+    fn broken_entry(
+        &self,
+        member: u32,
+        config: u64,
+        view: u64,
+        number: u64,
+        choice: &Choice,
+    ) -> Option<u8>
+        ensures { result ≡ first_broken (tests_under self.now.setup self.now.history self.now.setup.config (kinds.Entered member config view number choice.now)) }
+    {
+        if is_among(self.byzantine.as_slice(), member) {
+            return Some(1);
+        }
+        if !self.keeps_bound() {
+            return Some(2);
+        }
+        if self.config.number != config {
+            return Some(4);
+        }
+        if !self.may_enter(member, config, view, number) {
+            return Some(13);
+        }
+        if !self.supports(member, config, view, number, choice) {
+            return Some(14);
+        }
+        None
+    }
+
+    /// Whether the target is above the node's view, not below the one that it left for, and the number not above
+    /// its height.
+    fn may_enter(&self, member: u32, config: u64, target: u64, number: u64) -> bool
+        ensures { result ≡ (nat_lt (view member config self.now.history) target && nat_le (left member config self.now.history) target && nat_le number (height member self.now.history)) }
+    {
+        let facts = self.facts.as_slice();
+        view_of(facts, member, config) < target
+            && left_of(facts, member, config) <= target
+            && number <= height_of(facts, member)
+    }
+
     /// The first rule that a delivery breaks.
     fn broken_delivery(&self, member: u32, block: &Block, proof: &Proof) -> Option<u8>
         ensures { result ≡ first_broken (tests_under self.now.setup self.now.history self.now.setup.config (kinds.Delivered member block.now proof.now)) }
@@ -251,12 +373,18 @@ impl FactLog {
         quorum(self.config.members.len() as u32) as usize
     }
 
+    /// How many members may lie.
+    fn bound(&self) -> usize
+        ensures { result ≡ bound_of self.now.setup.config }
+    {
+        fault_bound(self.config.members.len() as u32) as usize
+    }
+
     /// Whether no more members lie than may.
     fn keeps_bound(&self) -> bool
         ensures { result ≡ keeps_bound self.now.setup self.now.setup.config }
     {
-        let members = self.config.members.as_slice();
-        faulty_of(self.byzantine.as_slice(), members) <= fault_bound(members.len() as u32) as usize
+        faulty_of(self.byzantine.as_slice(), self.config.members.as_slice()) <= self.bound()
     }
 
     /// Whether a quorum is Byzantine or has a fact for which the query asks.
@@ -270,6 +398,44 @@ impl FactLog {
                 self.config.members.as_slice(),
                 query,
             )
+    }
+
+    /// How many members are Byzantine or reported for the view at the height what tells this.
+    fn reporters(&self, config: u64, view: u64, height: u64, telling: Telling) -> usize
+        ensures { result ≡ reporters self.now.setup self.now.history self.now.setup.config config view height (tells telling) }
+    {
+        let query = Query::Told {
+            config,
+            view,
+            height,
+            telling,
+        };
+        count_of(
+            self.facts.as_slice(),
+            self.byzantine.as_slice(),
+            self.config.members.as_slice(),
+            &query,
+        )
+    }
+
+    /// Whether what was reported supports an entry with this choice.
+    fn supports(&self, member: u32, config: u64, view: u64, number: u64, choice: &Choice) -> bool
+        ensures { result ≡ is_supported self.now.setup self.now.history member self.now.setup.config config view number choice.now }
+    {
+        match choice {
+            Choice::Carry(vote) => {
+                vote.view < view
+                    && self.quorum() <= self.reporters(config, view, number, Telling::AtMost(*vote))
+                    && self.bound() < self.reporters(config, view, number, Telling::Accepted(*vote))
+            }
+            Choice::Free => {
+                let facts = self.facts.as_slice();
+                self.quorum() <= self.reporters(config, view, number, Telling::None)
+                    || (number == height_of(facts, member)
+                        && is_certified_in(facts, member, config, view))
+            }
+            Choice::Neither => false,
+        }
     }
 
     /// Whether the block comes next in the node's ledger, and is lawful there.

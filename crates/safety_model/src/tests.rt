@@ -9,9 +9,9 @@ use ord_types::{
 };
 use std::alloc::Global;
 
-const A: Digest = [1; 32];
+pub const A: Digest = [1; 32];
 
-const B: Digest = [2; 32];
+pub const B: Digest = [2; 32];
 
 fn ids_of(alloc: Global, ids: &[u32]) -> Result<List<u32>, NoMemory> {
     let mut list = List::new(alloc);
@@ -48,7 +48,7 @@ fn config_of_four(alloc: Global, mode: Mode) -> Result<Config, NoMemory>
 }
 
 // An empty log, and the hash of its block 0.
-fn log_of_four(
+pub fn log_of_four(
     alloc: Global,
     mode: Mode,
     byzantine: &[u32],
@@ -61,7 +61,7 @@ fn log_of_four(
 }
 
 // A vote of a member under configuration 0.
-fn accepted(member: u32, config: u64, view: u64, number: u64, digest: Digest) -> Fact {
+pub fn accepted(member: u32, config: u64, view: u64, number: u64, digest: Digest) -> Fact {
     Fact::Accepted {
         member,
         config,
@@ -71,7 +71,7 @@ fn accepted(member: u32, config: u64, view: u64, number: u64, digest: Digest) ->
     }
 }
 
-fn prepared(member: u32, config: u64, view: u64, number: u64, digest: Digest) -> Fact {
+pub fn prepared(member: u32, config: u64, view: u64, number: u64, digest: Digest) -> Fact {
     Fact::Prepared {
         member,
         config,
@@ -122,7 +122,7 @@ fn meta_of(alloc: Global, config: u64) -> Meta
 
 // What a block is to be made of.
 #[derive(Clone, Copy)]
-struct Made {
+pub struct Made {
     number: u64,
     previous: Digest,
     config: u64,
@@ -132,7 +132,7 @@ struct Made {
     false_meta: bool,
 }
 
-fn block_of(alloc: Global, made: Made) -> Result<Block, NoMemory> {
+pub fn block_of(alloc: Global, made: Made) -> Result<Block, NoMemory> {
     let requests = requests_of(alloc, made.kind, made.count)?;
     let stands = meta_of(alloc, made.config);
     let previous = made.previous;
@@ -160,7 +160,7 @@ fn block_of(alloc: Global, made: Made) -> Result<Block, NoMemory> {
 }
 
 // A certificate of these signers.
-fn cert_of(alloc: Global, view: u64, signers: &[u32]) -> Result<Proof, NoMemory> {
+pub fn cert_of(alloc: Global, view: u64, signers: &[u32]) -> Result<Proof, NoMemory> {
     let mut sigs = List::new(alloc);
     for signer in signers {
         sigs.push(Sig {
@@ -171,7 +171,7 @@ fn cert_of(alloc: Global, view: u64, signers: &[u32]) -> Result<Proof, NoMemory>
     Ok(Proof::Bft(Cert { view, sigs }))
 }
 
-fn delivered(member: u32, block: Block, proof: Proof) -> Fact {
+pub fn delivered(member: u32, block: Block, proof: Proof) -> Fact {
     Fact::Delivered {
         member,
         block,
@@ -180,7 +180,7 @@ fn delivered(member: u32, block: Block, proof: Proof) -> Fact {
 }
 
 // A good block 1 after this hash.
-fn first_after(previous: Digest) -> Made {
+pub fn first_after(previous: Digest) -> Made {
     Made {
         number: 1,
         previous,
@@ -193,7 +193,7 @@ fn first_after(previous: Digest) -> Made {
 }
 
 // The first rule that the fact breaks; 0 where it was added.
-fn answer(log: &mut FactLog, fact: Fact) -> u8 {
+pub fn answer(log: &mut FactLog, fact: Fact) -> u8 {
     match log.push_allowed(fact) {
         Ok(()) => 0,
         Err(FactRefusal::Rule(rule)) => rule,
@@ -258,7 +258,7 @@ fn rules_of_preparations(rt: HostRuntime) -> Result<(), NoMemory> {
 }
 
 // All accept the block, and these prepare it.
-fn prepare(log: &mut FactLog, hash: Digest, members: &[u32]) -> u8 {
+pub fn prepare(log: &mut FactLog, hash: Digest, members: &[u32]) -> u8 {
     for member in [1, 2, 3, 4] {
         if answer(log, accepted(member, 0, 0, 1, hash)) != 0 {
             return 1;

@@ -5,7 +5,7 @@ use Rattle.std.proofs.lemmas.Bool.{and_parts, and_from, eq-eqb}
 use Rattle.ord_types.specs.Hashes.{block_hash}
 use Rattle.ord_types.specs.Members.{is_in, is_raft}
 use Rattle.safety_model.specs.Blocks.{Config}
-use Rattle.safety_model.specs.Facts.{History, has, is_accepted_at}
+use Rattle.safety_model.specs.Facts.{History, has, is_accepted_at, is_entered_against}
 use Rattle.safety_model.specs.declared.fact.Fact.TheVariants.{Accepted}
 use Rattle.safety_model.specs.State.{Setup, height, config_of, view, left}
 use Rattle.safety_model.specs.Rules.{Allowed}
@@ -39,7 +39,8 @@ allowed su h i place w d st bounded ready =
     let in_view : (view i e h == v) ≡ true = eq-eqb _ _ (sym st.view) in
     let not_left : nat_le (left i e h) v ≡ true = subst (λ l. nat_le l v ≡ true) st.left ready.inside in
     let new : not (has (is_accepted_at i e v s) h) ≡ true = ap not (st.fresh ready.none) in
-    (bounded.correct, (bounded.bound, (member, (and_from _ _ bft number, (at, (and_from _ _ in_view not_left, (new, tt)))))))
+    let not_against : not (has (is_entered_against i e v s d) h) ≡ true = ap not (st.not_against d) in
+    (bounded.correct, (bounded.bound, (member, (and_from _ _ bft number, (at, (and_from _ _ in_view not_left, (new, (not_against, tt))))))))
 
 -- ACCEPT
 ready_if : (place : Place) (w : View) (X : Type 0) (o : Option X) (x : X) (t : Bool) → (is_voting place w && is_inside_view w && is_none w.accepted) ≡ t

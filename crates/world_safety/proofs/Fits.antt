@@ -5,7 +5,7 @@ use Rattle.ord_types.specs.declared.values.Proof.TheVariants as proof_of
 use Rattle.safety_model.specs.Blocks.{Block}
 use Rattle.safety_model.specs.Facts.{Cert, Proof, signers_of}
 use Rattle.safety_model.specs.declared.fact.Fact.{Fact}
-use Rattle.safety_model.specs.declared.fact.Fact.TheVariants.{Accepted, Prepared, Delivered}
+use Rattle.safety_model.specs.declared.fact.Fact.TheVariants.{Accepted, Prepared, Left, Reported, Entered, Delivered}
 use Rattle.bft_wire.specs.Messages.{HasMessageSpelling}
 use Rattle.node_model.specs.declared.letter.VoteMessage.{VoteMessage}
 use Rattle.node_model.specs.Letters.{on_wire}
@@ -37,4 +37,7 @@ pub record DeliveredFits (b : Block) (proof : Proof) : Type 0 where
 abbrev pub FactFits : Fact → Type 0
 FactFits (Accepted i e v s d) = Unit {0}
 FactFits (Prepared i e v s d) = Unit {0}
+FactFits (Left i e v) = Unit {0}
+FactFits (Reported i e v r) = Unit {0}
+FactFits (Entered i e v x choice) = Unit {0}
 FactFits (Delivered i b proof) = DeliveredFits b proof

@@ -13,7 +13,7 @@ use Rattle.safety_model.specs.Blocks.{Block, Request}
 use Rattle.safety_model.specs.Facts.{History}
 use Rattle.safety_model.specs.declared.fact.Fact.{Fact}
 use Rattle.safety_model.specs.declared.fact.Fact.TheVariants.{Accepted, Prepared, Delivered}
-use Rattle.safety_model.specs.State.{Setup, config_of, height}
+use Rattle.safety_model.specs.State.{Setup, config_of, height, view}
 use Rattle.safety_model.specs.Rules.{Allowed, IsRun, actor, bound_of, faulty}
 use Rattle.safety_model.proofs.FactTests.{accepted_itself, prepared_itself}
 use Rattle.signer_edge.specs.Accepts.{Accepts}
@@ -196,7 +196,8 @@ module _ (su : Setup) (i : ℕ) (h : History) (honest : IsHonest su) where
   prepared_fits m st d is =
       let n = m.state in
       let due = due_is (place_in n) (view_in n) d is in
-      let fits = st.node.fits (config_of n.setup n.id (facts_of n.past)).number 0 (height n.id (facts_of n.past)) due.block due.accepted in
+      let e = (config_of n.setup n.id (facts_of n.past)).number in
+      let fits = st.node.fits e (view n.id e (facts_of n.past)) (height n.id (facts_of n.past)) due.block due.accepted in
       (fits.number, subst IsDigest due.digest (hash_fits due.block))
 
   prepare_round_stands : (m : Making PastNode) → MakingStands su i h m → (keys : Keys) → SignsFit keys → (o : Option (List ℕ)) → preparation_due (place_in m.state) (view_in m.state) ≡ o
@@ -227,7 +228,8 @@ module _ (su : Setup) (i : ℕ) (h : History) (honest : IsHonest su) where
       let s = height n.id (facts_of n.past) in
       let both = delivery_is place (view_in n) b cert is in
       let at : b.header.number ≡ s = both.1 ∙ place_height n in
-      let fits : FitsAt s b = st.node.fits e 0 s b both.0 in
+      let fits : FitsAt s b = st.node.fits e (view n.id e (facts_of n.past)) s b both.0 in
+      let first = (fits_in m st).view in
       record {
         block = subst (λ s. FitsAt s b) (sym at) fits;
         behind = delivery_spelled n.setup (told h m) n.id place (view_in n) b cert (stands n.setup (told h m) n.id n.past st.node) (omega arith) (fits_in m st).members is;

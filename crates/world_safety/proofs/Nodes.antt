@@ -12,10 +12,11 @@ use Rattle.safety_model.specs.Blocks.{Block}
 use Rattle.safety_model.specs.Facts.{History, has, is_accepted, is_accepted_at, is_prepared}
 use Rattle.safety_model.specs.declared.fact.Fact.{Fact}
 use Rattle.safety_model.specs.declared.fact.Fact.TheVariants.{Accepted, Prepared, Delivered}
-use Rattle.safety_model.specs.State.{Setup, config_of, height, is_inside, tip}
+use Rattle.safety_model.specs.State.{Setup, config_of, height, is_inside, left, tip, view}
 use Rattle.safety_model.specs.Rules.{IsRun, actor}
 use Rattle.safety_model.proofs.FactTests.{bytes_eq_refl}
 use Rattle.safety_model.proofs.Deliveries.{tip_number}
+use Rattle.safety_model.proofs.StateFacts.{first_view, moves, moves_actor, never_against}
 use Rattle.signer_edge.specs.Accepts.{Accepts}
 use Rattle.bft_wire.specs.declared.message.Message.{Message}
 use Rattle.bft_wire.specs.declared.message.Message.TheVariants as wire
@@ -31,7 +32,7 @@ use Rattle.world_safety.specs.Resting.{has_ground, own}
 use Rattle.world_safety.proofs.Standing.{IsKeptWell, Stands, StandsLast, names, rests}
 use Rattle.world_safety.proofs.Fits.{FitsAt, MessageFits}
 use Rattle.world_safety.proofs.Lists.{all_append, all_filter, all_map, all_reverse}
-use Rattle.world_safety.proofs.Own.{config_own, height_own, own_more, own_other, tip_own}
+use Rattle.world_safety.proofs.Own.{config_own, height_own, left_own, own_more, own_other, tip_own, view_own}
 
 -- a letter rests on a fact, names its sender, and has a spelling
 pub record IsGoodLetter (su : Setup) (h : History) (letter : Letter) : Type 0 where
@@ -39,9 +40,10 @@ pub record IsGoodLetter (su : Setup) (h : History) (letter : Letter) : Type 0 wh
   pub named : names letter.from letter.message ≡ true
   pub fits : MessageFits letter.message
 
--- node i with this past, where these are all facts
+-- node i with this past, where these are all facts; it never left or entered a view
 pub record NodeStands (su : Setup) (h : History) (i : ℕ) (past : Past) : Type 0 where
   pub own : own i h ≡ facts_of past
+  pub still : has (moves i) h ≡ false
   pub timely : AllByRecursion (IsGoodLetter su h) (timely su i past)
   pub accepted : (e v s : ℕ) (b : Block) → accepted_block i e v s past ≡ Some b → has (is_accepted i e v s (block_hash b)) h ≡ true
   pub fresh : (e v s : ℕ) → accepted_block i e v s past ≡ None → has (is_accepted_at i e v s) h ≡ false
@@ -95,6 +97,7 @@ pub other_did : (su : Setup) (h : History) (i : ℕ) (past : Past) (f : Fact) �
 other_did su h i past f other st =
     record {
       own = own_other i f h other ∙ st.own;
+      still = or_false _ _ (moves_actor i f other) st.still;
       timely = letters_more su h f (timely su i past) st.timely;
       accepted = λ e v s b is. or_right _ _ (st.accepted e v s b is);
       fresh = λ e v s is. or_false _ _ (other_accepts i e v s f other) (st.fresh e v s is);
@@ -134,6 +137,7 @@ did_accept su h i past e v s b fit st =
     let f = Accepted i e v s (block_hash b) in
     record {
       own = own_more i f h (eq-eqb i i refl) ∙ ap (λ (g : History). f ∷ g) st.own;
+      still = st.still;
       timely = letters_more su h f (timely su i past) st.timely;
       accepted = λ e' v' s' c is. accepted_here i e v s e' v' s' b c past h (st.accepted e' v' s' c) (is_accepted_at i e' v' s' f) refl is;
       fresh = λ e' v' s' is. fresh_here i e v s e' v' s' b past h (st.fresh e' v' s') (is_accepted_at i e' v' s' f) refl is;
@@ -147,6 +151,7 @@ did_prepare su h i past e v s d st =
     let f = Prepared i e v s d in
     record {
       own = own_more i f h (eq-eqb i i refl) ∙ ap (λ (g : History). f ∷ g) st.own;
+      still = st.still;
       timely = letters_more su h f (timely su i past) st.timely;
       accepted = λ e' v' s' c is. st.accepted e' v' s' c is;
       fresh = λ e' v' s' is. st.fresh e' v' s' is;
@@ -160,6 +165,7 @@ did_deliver su h i past b proof st =
     let f = Delivered i b proof in
     record {
       own = own_more i f h (eq-eqb i i refl) ∙ ap (λ (g : History). f ∷ g) st.own;
+      still = st.still;
       timely = letters_more su h f (timely su i past) st.timely;
       accepted = λ e' v' s' c is. st.accepted e' v' s' c is;
       fresh = λ e' v' s' is. st.fresh e' v' s' is;
@@ -198,6 +204,7 @@ pub signed_commit : (su : Setup) (h : History) (i : ℕ) (past : Past) (m : Comm
 signed_commit su h i past m accepts st is fits =
     record {
       own = st.own;
+      still = st.still;
       timely = all_append (IsGoodLetter su h) (filter (is_timely su i (facts_of past) accepts) (own_commit i m ∷ [])) (timely su i past)
           (timely_good su h i (facts_of past) accepts (own_commit i m ∷ []) (record { rests = or_right _ _ is; fits = fits }, tt)) st.timely;
       accepted = st.accepted;
@@ -228,6 +235,7 @@ pub event_came : (su : Setup) (h : History) (i : ℕ) (past : Past) (event : Eve
 event_came su h i past event accepts st good =
     record {
       own = st.own;
+      still = st.still;
       timely = all_append (IsGoodLetter su h) (filter (is_timely su i (facts_of past) accepts) (letter_of i event)) (timely su i past)
           (timely_good su h i (facts_of past) accepts (letter_of i event) (letter_brought su h i event good)) st.timely;
       accepted = st.accepted;
@@ -237,7 +245,7 @@ event_came su h i past event accepts st good =
 
 -- it is opened on the first block
 pub opened : (su : Setup) (i : ℕ) → NodeStands su [] i (Opened ∷ [])
-opened su i = record { own = refl; timely = tt; accepted = λ e v s b is. absurd (cc); fresh = λ e v s is. refl; fits = λ e v s b is. absurd (cc) }
+opened su i = record { own = refl; still = refl; timely = tt; accepted = λ e v s b is. absurd (cc); fresh = λ e v s is. refl; fits = λ e v s b is. absurd (cc) }
 
 -- SO ITS PLACE AND ITS VIEW ARE THOSE BY THE HISTORY
 
@@ -257,20 +265,26 @@ all_kept su h i past e v s st =
     (all_map (λ letter. IsGoodLetter su h letter × (is_of_view e v s letter ≡ true)) (IsKeptWell su h e v s)
     (λ letter both. record { rests = both.0.rests; named = both.0.named; of_view = both.1; fits = both.0.fits }) (filter (is_of_view e v s) (kept su i past)) good)
 
+-- it is in view 0
+pub first_view_of : (su : Setup) (h : History) (i e : ℕ) (past : Past) → NodeStands su h i past → view i e (facts_of past) ≡ 0
+first_view_of su h i e past st = ap (view i e) (sym st.own) ∙ sym (view_own i e h) ∙ (first_view i e h st.still).0
+
 pub stands : (su : Setup) (h : History) (i : ℕ) (past : Past) → NodeStands su h i past → Stands su h i (place_of su i (facts_of past)) (view_of su i past)
 unfolding place_of view_of
 stands su h i past st =
     let e = (config_of su i (facts_of past)).number in
+    let v = view i e (facts_of past) in
     let s = height i (facts_of past) in
     record {
       me = refl;
       config = ap (config_of su i) (sym st.own) ∙ sym (config_own su i h);
       height = ap (height i) (sym st.own) ∙ sym (height_own i h);
-      view = refl;
-      left = refl;
-      accepted = λ b is. st.accepted e 0 s b is;
-      fresh = λ is. st.fresh e 0 s is;
-      kept = all_kept su h i past e 0 s st;
+      view = ap (view i e) (sym st.own) ∙ sym (view_own i e h);
+      left = ap (left i e) (sym st.own) ∙ sym (left_own i e h);
+      accepted = λ b is. st.accepted e v s b is;
+      fresh = λ is. st.fresh e v s is;
+      not_against = λ d. never_against i e v s d h st.still;
+      kept = all_kept su h i past e v s st;
     }
 
 pub stands_last : (su : Setup) (h : History) (i : ℕ) (past : Past) → NodeStands su h i past → IsRun su h → su.genesis.header.number ≡ 0 → StandsLast su h i (place_of su i (facts_of past))

@@ -1,5 +1,5 @@
 -- What the history says of a node, its own facts say.
-use Rattle.std.proofs.Common.{◌≡◌, ℕ, ◌+◌, Bool, true, false, List, [], ◌∷◌, ◌++◌, length, map, reverse, cond, refl, sym, ap, ap₂, ◌∙◌, append-nil, Option}
+use Rattle.std.proofs.Common.{◌≡◌, ℕ, ◌+◌, Bool, true, false, List, [], ◌∷◌, ◌++◌, length, map, max, reverse, cond, refl, sym, ap, ap₂, ◌∙◌, append-nil, Option}
 use Rattle.std.specs.Prelude.{◌==◌}
 use Rattle.std.specs.List.{AllByRecursion, flat_map}
 use Rattle.std.proofs.lemmas.Grind.{flat_map-append}
@@ -8,9 +8,10 @@ use Rattle.ord_types.specs.declared.values.Proof.TheVariants as proof_of
 use Rattle.safety_model.specs.Blocks.{Block, config_at}
 use Rattle.safety_model.specs.Facts.{History, Proof}
 use Rattle.safety_model.specs.declared.fact.Fact.{Fact}
-use Rattle.safety_model.specs.declared.fact.Fact.TheVariants.{Accepted, Prepared, Delivered}
-use Rattle.safety_model.specs.State.{Setup, block_or, config_of, delivered, delivered_by, height, last_delivered, last_or, ledger, tip}
+use Rattle.safety_model.specs.declared.fact.Fact.TheVariants.{Accepted, Prepared, Left, Reported, Entered, Delivered}
+use Rattle.safety_model.specs.State.{Setup, block_or, config_of, delivered, delivered_by, entered_view, height, last_delivered, last_or, ledger, left, left_view, tip, view}
 use Rattle.safety_model.specs.Rules.{actor}
+use Rattle.safety_model.proofs.StateFacts.{moves_actor, views_stay}
 use Rattle.world_model.specs.Worlds.{stored_in}
 use Rattle.world_safety.specs.Resting.{own}
 use Rattle.world_safety.specs.Safe.{stored}
@@ -48,6 +49,23 @@ config_own su i h = ap (config_at su.config) (delivered_own i h)
 pub tip_own : (su : Setup) (i : ℕ) (h : History) → tip su i h ≡ tip su i (own i h)
 tip_own su i h = ap (block_or su.genesis) (last_own i h)
 
+-- the view that it is in, and the one that it left for
+pub view_own : (i e : ℕ) (h : History) → view i e h ≡ view i e (own i h)
+view_own i e [] = refl
+view_own i e (f ∷ h) = go (actor f == i) refl (view_own i e h)
+  where
+    go : (b : Bool) → (actor f == i) ≡ b → view i e h ≡ view i e (own i h) → view i e (f ∷ h) ≡ view i e (cond b (f ∷ own i h) (own i h))
+    go true is rest = ap (max (entered_view i e f)) rest
+    go false is rest = (views_stay i e f h (moves_actor i f is)).0 ∙ rest
+
+pub left_own : (i e : ℕ) (h : History) → left i e h ≡ left i e (own i h)
+left_own i e [] = refl
+left_own i e (f ∷ h) = go (actor f == i) refl (left_own i e h)
+  where
+    go : (b : Bool) → (actor f == i) ≡ b → left i e h ≡ left i e (own i h) → left i e (f ∷ h) ≡ left i e (cond b (f ∷ own i h) (own i h))
+    go true is rest = ap (max (left_view i e f)) rest
+    go false is rest = (views_stay i e f h (moves_actor i f is)).1 ∙ rest
+
 -- a fact of the node, and one of another
 pub own_more : (i : ℕ) (f : Fact) (h : History) → (actor f == i) ≡ true → own i (f ∷ h) ≡ f ∷ own i h
 own_more i f h is = rw is refl
@@ -77,6 +95,9 @@ stored_more su i fs h mine =
 blocks_one : (i : ℕ) (f : Fact) → (actor f == i) ≡ true → map (λ (entry : Block × Proof). entry.0) (flat_map stored_in (f ∷ [])) ≡ delivered_by i f
 blocks_one i (Accepted j e v s d) is = refl
 blocks_one i (Prepared j e v s d) is = refl
+blocks_one i (Left j e v) is = refl
+blocks_one i (Reported j e v r) is = refl
+blocks_one i (Entered j e v x choice) is = refl
 blocks_one i (Delivered j b proof) is = rw is refl
 
 blocks_of : List Fact → List Block

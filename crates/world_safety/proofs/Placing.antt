@@ -10,7 +10,7 @@ use Rattle.safety_model.specs.Blocks.{Block, Config}
 use Rattle.safety_model.specs.Facts.{Cert, History, Proof}
 use Rattle.safety_model.specs.Rules.{IsRun}
 use Rattle.safety_model.specs.Safety.{IsGenesis}
-use Rattle.safety_model.specs.State.{Setup, block_or, delivered, height, last_delivered, tip}
+use Rattle.safety_model.specs.State.{Setup, block_or, config_of, delivered, height, last_delivered, tip, view}
 use Rattle.safety_model.specs.declared.fact.Fact.TheVariants.{Delivered}
 use Rattle.safety_model.proofs.Chains.{config_stays}
 use Rattle.safety_model.proofs.Deliveries.{last_stands, tip_number}
@@ -18,7 +18,7 @@ use Rattle.node_model.specs.Past.{Past, facts_of}
 use Rattle.node_model.specs.Keeping.{cert_in, cert_of_last, place_of}
 use Rattle.world_safety.proofs.Fits.{CertFits, FactFits, ProofFits}
 use Rattle.world_safety.proofs.Fitting.{PlaceFits, all_stands}
-use Rattle.world_safety.proofs.Nodes.{NodeStands}
+use Rattle.world_safety.proofs.Nodes.{NodeStands, first_view_of}
 use Rattle.world_safety.proofs.Own.{height_own, last_own, tip_own}
 
 -- a chain's setup where nobody lies, whose configuration has a spelling
@@ -52,7 +52,7 @@ last_fits h i fit cert None is at = absurd (cc)
 last_fits h i fit cert (Some last) is at = proof_cert last.1 cert (all_stands FactFits h (Delivered i last.0 last.1) fit (last_stands i h last.0 last.1 is)).behind at
 
 -- so the place fits
-pub place_fits : (su : Setup) (h : History) (i : ℕ) (past : Past) → IsHonest su → NodeStands su h i past → IsRun su h → AllByRecursion FactFits h → PlaceFits (place_of su i (facts_of past)) 0
+pub place_fits : (su : Setup) (h : History) (i : ℕ) (past : Past) → IsHonest su → NodeStands su h i past → IsRun su h → AllByRecursion FactFits h → PlaceFits (place_of su i (facts_of past)) (view i (config_of su i (facts_of past)).number (facts_of past))
 unfolding place_of header_hash
 place_fits su h i past honest node run fit =
     let g = facts_of past in
@@ -64,7 +64,7 @@ place_fits su h i past honest node run fit =
     let number = tip_number su h run (genesis_first su honest) i in
     let numbers : (tip su i h).header.number ≡ (tip su i g).header.number = ap (λ (b : Block). b.header.number) tip_is in
     record {
-      view = refl;
+      view = first_view_of su h i (config_of su i g).number past node;
       config = subst (λ (c : Config). IsNumber c.number) (sym (config_stays su.config (delivered i g))) honest.number;
       members = subst (λ (c : Config). HasIdsSpelling c.members) (sym (config_stays su.config (delivered i g))) honest.members;
       last = length-sha256 _;

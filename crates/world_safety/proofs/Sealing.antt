@@ -13,7 +13,7 @@ use Rattle.safety_model.specs.Blocks.{Block}
 use Rattle.safety_model.specs.Facts.{History}
 use Rattle.safety_model.specs.State.{Setup, config_of, delivered, height, is_inside, view}
 use Rattle.safety_model.specs.declared.fact.Fact.{Fact}
-use Rattle.safety_model.specs.declared.fact.Fact.TheVariants.{Accepted, Prepared, Delivered}
+use Rattle.safety_model.specs.declared.fact.Fact.TheVariants.{Accepted, Prepared, Left, Reported, Entered, Delivered}
 use Rattle.safety_model.proofs.Chains.{config_stays}
 use Rattle.signer_edge.specs.Accepts.{Accepts}
 use Rattle.signer_edge.specs.Certificates.{is_good_cert}
@@ -54,6 +54,9 @@ letters_signed old new more letters all = all_map (IsSignedLetter old) (IsSigned
 fact_certified : (old new : Accepts) → KeepsAccepted old new → (c : Config) (f : Fact) → IsCertifiedFact old c f → IsCertifiedFact new c f
 fact_certified old new more c (Accepted i e v s d) is = tt
 fact_certified old new more c (Prepared i e v s d) is = tt
+fact_certified old new more c (Left i e v) is = tt
+fact_certified old new more c (Reported i e v r) is = tt
+fact_certified old new more c (Entered i e v x choice) is = tt
 fact_certified old new more c (Delivered i b proof_of.Raft) is = is
 fact_certified old new more c (Delivered i b (proof_of.Bft cert)) is = is_good_cert-kept old new c b.header.number (block_hash b) cert more is
 

@@ -6,7 +6,7 @@ use Rattle.ord_types.specs.Hashes.{block_hash}
 use Rattle.ord_types.specs.Members.{is_in}
 use Rattle.ord_types.specs.declared.values.Proof.TheVariants as proof_of
 use Rattle.safety_model.specs.Blocks.{Block, Request}
-use Rattle.safety_model.specs.Facts.{Cert, History, has, is_accepted, is_accepted_at}
+use Rattle.safety_model.specs.Facts.{Cert, History, has, is_accepted, is_accepted_at, is_entered_against}
 use Rattle.safety_model.specs.declared.fact.Fact.TheVariants.{Accepted, Prepared, Delivered}
 use Rattle.safety_model.specs.Rules.{Allowed, is_correct, keeps_bound}
 use Rattle.safety_model.specs.State.{Setup, height, tip, config_of, view, left}
@@ -47,6 +47,7 @@ pub record Stands (su : Setup) (h : History) (i : ℕ) (place : Place) (w : View
   pub left : w.left ≡ left i place.config.number h
   pub accepted : (b : Block) → w.accepted ≡ Some b → IsTrue (has (is_accepted i place.config.number w.view place.height (block_hash b)) h)
   pub fresh : w.accepted ≡ None → has (is_accepted_at i place.config.number w.view place.height) h ≡ false
+  pub not_against : (d : List ℕ) → has (is_entered_against i place.config.number w.view place.height d) h ≡ false
   pub kept : AllByRecursion (IsKeptWell su h place.config.number w.view place.height) w.kept
 
 -- the place ends with the node's last block

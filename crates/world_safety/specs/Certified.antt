@@ -6,7 +6,7 @@ use Rattle.ord_types.specs.declared.values.Proof.TheVariants as proof_of
 use Rattle.safety_model.specs.Blocks.{Block, Config}
 use Rattle.safety_model.specs.Facts.{Proof}
 use Rattle.safety_model.specs.declared.fact.Fact.{Fact}
-use Rattle.safety_model.specs.declared.fact.Fact.TheVariants.{Accepted, Prepared, Delivered}
+use Rattle.safety_model.specs.declared.fact.Fact.TheVariants.{Accepted, Prepared, Left, Reported, Entered, Delivered}
 use Rattle.signer_edge.specs.Accepts.{Accepts}
 use Rattle.signer_edge.specs.Certificates.{is_good_cert}
 use Rattle.signer_edge.specs.Seals.{is_sealed}
@@ -24,6 +24,9 @@ IsCertificateOf accepts c b (proof_of.Bft cert) = IsTrue (is_good_cert accepts c
 abbrev pub IsCertifiedFact : Accepts → Config → Fact → Type 0
 IsCertifiedFact accepts c (Accepted i e v s d) = ⊤
 IsCertifiedFact accepts c (Prepared i e v s d) = ⊤
+IsCertifiedFact accepts c (Left i e v) = ⊤
+IsCertifiedFact accepts c (Reported i e v r) = ⊤
+IsCertifiedFact accepts c (Entered i e v x choice) = ⊤
 IsCertifiedFact accepts c (Delivered i b proof) = IsCertificateOf accepts c b proof
 
 -- every delivery of the world has one under its configuration, of signatures that its box accepts
