@@ -1,11 +1,11 @@
 -- What the grammar lets into a command.
-use Rattle.std.proofs.Common.{slice_index, codes, ◌≡◌, ℕ, zero, suc, ◌+◌, ◌-◌, ◌*◌, ◌^◌, ◌<◌, ◌≤◌, List, [], ◌∷◌, length, cond, Bool, true, false, refl, ap, arith, Option, Some, None, Result, Ok, Err, ◌&&◌, option_map, option_and_then, nat_lt, nat_le, ◌==◌, IfOk, IfSome, All}
+use Rattle.std.proofs.Common.{slice_index, codes, ◌≡◌, ℕ, zero, suc, ◌+◌, ◌-◌, ◌*◌, ◌^◌, ◌<◌, ◌≤◌, List, [], ◌∷◌, length, cond, Bool, true, false, refl, ap, arith, Option, Some, None, Result, Ok, Err, ◌&&◌, option_map, option_and_then, nat_lt, nat_le, nat_eq, drop, ◌==◌, IfOk, IfSome, All}
 use Rattle.std.proofs.lemmas.Option.{option_and_then_some}
 use Rattle.std.proofs.lemmas.Result.{IfOk-at_ok}
 use Rattle.std.proofs.lemmas.Bool.{ltb-true, leb-true, eqb-false}
 use Rattle.std.proofs.lemmas.List.Elements.{All-cons}
 use Rattle.std.proofs.lemmas.List.Splits.{length-slice_split}
-use Rattle.std.specs.List.{slice_split}
+use Rattle.std.specs.List.{slice_split, starts_with}
 use Rattle.std.specs.Str.{bytes_eq}
 use Rattle.std.specs.List.Sorted.{IsStrictlyIncreasing}
 use Rattle.script.specs.declared.command.Command.{Command}
@@ -15,10 +15,10 @@ use Rattle.script.specs.declared.command.Stop.TheVariants.{Malformed, NotBuilt}
 use Rattle.script.specs.declared.command.Meaning.{Meaning}
 use Rattle.script.specs.declared.command.Meaning.TheVariants.{Nothing, Means}
 use Rattle.script.specs.Words.{Word, words}
-use Rattle.script.specs.Fields.{digits_from, is_digit, nibble, pair_of, onto, pairs_of, number_of, not_zero, id_of, ticks_of, hex_of, ids_from, ids_of, given_ids_of, entry_of, in_order, range_of_parts, range_of, ranges_from, ranges_of}
+use Rattle.script.specs.Fields.{digits_from, is_digit, nibble, pair_of, onto, pairs_of, number_of, not_zero, id_of, ticks_of, hex_of, payload_of, ids_from, ids_of, given_ids_of, byzantine_of, vote_kind_of, entry_of, in_order, range_of_parts, range_of, ranges_from, ranges_of}
 use Rattle.script.specs.Reading.{◌>>=◌, field, field_or, fitted, no_more}
-use Rattle.script.specs.Commands.{IsId, AreIds, AreBytes, IsRange, AreRanges, IsWellFormed}
-use Rattle.script.specs.Grammar.{genesis_line, submit_line, raw_line, tick_line, deliver_line, flush_line, show_line, line_of, command_of, judged, meaning, same_as}
+use Rattle.script.specs.Commands.{IsId, AreIds, AreByzantine, AreBytes, IsRange, AreRanges, IsWellFormed}
+use Rattle.script.specs.Grammar.{genesis_line, submit_line, raw_line, tick_line, deliver_line, flush_line, show_line, propose_line, vote_line, lie_line, seal_line, byzantine_line_of, line_of, command_of, judged, meaning, same_as}
 use Rattle.script.specs.Later.{is_later}
 
 picked : {A : Type 0} (b : Bool) (x : Option A) (y : A) → cond b x None ≡ Some y → (b ≡ true) × (x ≡ Some y)
@@ -93,6 +93,19 @@ hex_fits text bytes e = go (bytes_eq text (codes "-")) e
     go true e = let same : [] ≡ bytes = cc in rw (← same) tt
     go false e = pairs_fit text bytes (passed (length text == 0) (pairs_of text) bytes e).1
 
+record IsPayload (bytes : List ℕ) : Type 0 where
+  few : length bytes ≤ 65536
+  are_bytes : AreBytes bytes
+
+payload_fits : (text payload : List ℕ) → payload_of text ≡ Some payload → IsPayload payload
+unfolding payload_of
+payload_fits text payload e =
+    option_and_then_some (λ bytes. cond (nat_le (length bytes) 65536) (Some bytes) None) (hex_of text) payload e
+    (λ bytes read is.
+    let test = picked (nat_le (length bytes) 65536) (Some bytes) payload is in
+    let same : bytes ≡ payload = cc (test.1) in
+    rw (← same) (record { few = leb-true (length bytes) 65536 test.0; are_bytes = hex_fits text bytes read }))
+
 -- ids that were read, above the last one
 record Rise (last room : ℕ) (parts : List (List ℕ)) (ids : List ℕ) : Type 0 where
   pub few : length ids ≤ room
@@ -138,6 +151,12 @@ unfolding ids_of
 ids_fit text ids e =
     let rise = ids_rise 0 31 (slice_split (λ b. b == 44) text) ids e in
     record { some = omega (arith, rise.same, length-slice_split (λ b. b == 44) text); few = rise.few; ascending = increasing_rest 0 ids rise.ascending; each = rise.each }
+
+byzantine_fit : (text ids : List ℕ) → byzantine_of text ≡ Some ids → AreByzantine ids
+unfolding byzantine_of
+byzantine_fit text ids e =
+    let found = ids_fit (drop 4 text) ids (picked (starts_with nat_eq text (codes "byz=")) (ids_of (drop 4 text)) ids e).1 in
+    record { few = found.few; ascending = found.ascending; each = found.each }
 
 given_ids_fit : (text : List ℕ) (only : Option (List ℕ)) → given_ids_of text ≡ Some only → IfSome only AreIds
 given_ids_fit text only e =
@@ -207,14 +226,21 @@ bind_keeps : {A B : Type 0} (r : Result A Stop) (f : A → Result B Stop) (Q : B
 bind_keeps (Ok x) f Q h = h x refl
 bind_keeps (Err e) f Q h = tt
 
+no_byzantine : AreByzantine []
+no_byzantine = record { few = omega arith; ascending = λ k h. absurd (omega arith); each = λ k d h. absurd (omega arith) }
+
 genesis_fits : (past : ℕ) (ws : List Word) → IfOk (genesis_line past ws) IsWellFormed
 unfolding genesis_line
 genesis_fits past ws =
     bind_keeps (field (same_as (codes "bft")) past ws) _ IsWellFormed (λ kind k.
     bind_keeps (field ids_of past kind.1) _ IsWellFormed (λ members m.
     bind_keeps (field (same_as (codes "batch=1")) past members.1) _ IsWellFormed (λ batch b.
-    bind_keeps (no_more batch.1) _ IsWellFormed (λ none n.
-    field_keeps ids_of AreIds ids_fit past kind.1 members m))))
+    bind_keeps (field_or [] byzantine_of batch.1) _ IsWellFormed (λ byzantine z.
+    bind_keeps (no_more byzantine.1) _ IsWellFormed (λ none n.
+    record {
+      member_ids = field_keeps ids_of AreIds ids_fit past kind.1 members m;
+      byzantine_ids = field_or_keeps [] byzantine_of AreByzantine no_byzantine byzantine_fit batch.1 byzantine z;
+    })))))
 
 submit_fits : (past : ℕ) (ws : List Word) → IfOk (submit_line past ws) IsWellFormed
 unfolding submit_line
@@ -273,14 +299,87 @@ show_fits past ws =
       number_below = field_keeps entry_of (λ n. n ≤ 2 ^ 62 - 1) (number_below (2 ^ 62 - 1)) past node.1 number m;
     })))
 
+propose_fits : (past : ℕ) (ws : List Word) → IfOk (propose_line past ws) IsWellFormed
+unfolding propose_line
+propose_fits past ws =
+    bind_keeps (field id_of past ws) _ IsWellFormed (λ from f.
+    bind_keeps (field id_of past from.1) _ IsWellFormed (λ to t.
+    bind_keeps (field entry_of past to.1) _ IsWellFormed (λ view v.
+    bind_keeps (field (number_of (2 ^ 32 - 1)) past view.1) _ IsWellFormed (λ client c.
+    bind_keeps (field (number_of (2 ^ 64 - 1)) past client.1) _ IsWellFormed (λ serial s.
+    bind_keeps (field payload_of past serial.1) _ IsWellFormed (λ payload p.
+    bind_keeps (no_more payload.1) _ IsWellFormed (λ none n.
+    let fits = field_keeps payload_of IsPayload payload_fits past serial.1 payload p in
+    record {
+      from_id = field_keeps id_of IsId id_fits past ws from f;
+      to_id = field_keeps id_of IsId id_fits past from.1 to t;
+      view_below = field_keeps entry_of (λ n. n ≤ 2 ^ 62 - 1) (number_below (2 ^ 62 - 1)) past to.1 view v;
+      client_below = field_keeps (number_of (2 ^ 32 - 1)) (λ n. n ≤ 2 ^ 32 - 1) (number_below (2 ^ 32 - 1)) past view.1 client c;
+      serial_below = field_keeps (number_of (2 ^ 64 - 1)) (λ n. n ≤ 2 ^ 64 - 1) (number_below (2 ^ 64 - 1)) past client.1 serial s;
+      few = fits.few;
+      are_bytes = fits.are_bytes;
+    })))))))
+
+vote_fits : (past : ℕ) (ws : List Word) → IfOk (vote_line past ws) IsWellFormed
+unfolding vote_line
+vote_fits past ws =
+    bind_keeps (field id_of past ws) _ IsWellFormed (λ from f.
+    bind_keeps (field id_of past from.1) _ IsWellFormed (λ to t.
+    bind_keeps (field vote_kind_of past to.1) _ IsWellFormed (λ kind k.
+    bind_keeps (field entry_of past kind.1) _ IsWellFormed (λ view v.
+    bind_keeps (field entry_of past view.1) _ IsWellFormed (λ entry e.
+    bind_keeps (no_more entry.1) _ IsWellFormed (λ none n.
+    record {
+      from_id = field_keeps id_of IsId id_fits past ws from f;
+      to_id = field_keeps id_of IsId id_fits past from.1 to t;
+      view_below = field_keeps entry_of (λ n. n ≤ 2 ^ 62 - 1) (number_below (2 ^ 62 - 1)) past kind.1 view v;
+      entry_below = field_keeps entry_of (λ n. n ≤ 2 ^ 62 - 1) (number_below (2 ^ 62 - 1)) past view.1 entry e;
+    }))))))
+
+lie_fits : (past : ℕ) (ws : List Word) → IfOk (lie_line past ws) IsWellFormed
+unfolding lie_line
+lie_fits past ws =
+    bind_keeps (field id_of past ws) _ IsWellFormed (λ from f.
+    bind_keeps (field id_of past from.1) _ IsWellFormed (λ to t.
+    bind_keeps (field hex_of past to.1) _ IsWellFormed (λ bytes b.
+    bind_keeps (no_more bytes.1) _ IsWellFormed (λ none n.
+    record {
+      from_id = field_keeps id_of IsId id_fits past ws from f;
+      to_id = field_keeps id_of IsId id_fits past from.1 to t;
+      are_bytes = field_keeps hex_of AreBytes hex_fits past to.1 bytes b;
+    }))))
+
+seal_fits : (past : ℕ) (ws : List Word) → IfOk (seal_line past ws) IsWellFormed
+unfolding seal_line
+seal_fits past ws =
+    bind_keeps (field (number_of (2 ^ 32 - 1)) past ws) _ IsWellFormed (λ id i.
+    bind_keeps (field hex_of past id.1) _ IsWellFormed (λ bytes b.
+    bind_keeps (no_more bytes.1) _ IsWellFormed (λ none n.
+    record {
+      id_below = field_keeps (number_of (2 ^ 32 - 1)) (λ n. n ≤ 2 ^ 32 - 1) (number_below (2 ^ 32 - 1)) past ws id i;
+      are_bytes = field_keeps hex_of AreBytes hex_fits past id.1 bytes b;
+    })))
+
 either : (b : Bool) (x y : Result Command Stop) → IfOk x IsWellFormed → IfOk y IsWellFormed → IfOk (cond b x y) IsWellFormed
 either true x y f g = f
 either false x y f g = g
 
+byzantine_line_fits : (past : ℕ) (word : Word) (more : List Word) → IfOk (byzantine_line_of past word more) IsWellFormed
+unfolding byzantine_line_of
+byzantine_line_fits past word more =
+    let other : Result Command Stop = Err (Malformed word.place) in
+    let seal = cond (bytes_eq word.text (codes "seal")) (seal_line past more) other in
+    let lie = cond (bytes_eq word.text (codes "lie")) (lie_line past more) seal in
+    let vote = cond (bytes_eq word.text (codes "byz-vote")) (vote_line past more) lie in
+    either (bytes_eq word.text (codes "byz-propose")) (propose_line past more) vote (propose_fits past more)
+    (either (bytes_eq word.text (codes "byz-vote")) (vote_line past more) lie (vote_fits past more)
+    (either (bytes_eq word.text (codes "lie")) (lie_line past more) seal (lie_fits past more)
+    (either (bytes_eq word.text (codes "seal")) (seal_line past more) other (seal_fits past more) tt)))
+
 line_fits : (past : ℕ) (word : Word) (more : List Word) → IfOk (line_of past word more) IsWellFormed
 unfolding line_of
 line_fits past word more =
-    let other : Result Command Stop = Err (Malformed word.place) in
+    let other = byzantine_line_of past word more in
     let show = cond (bytes_eq word.text (codes "show")) (show_line past more) other in
     let flush = cond (bytes_eq word.text (codes "flush")) (flush_line more) show in
     let deliver = cond (bytes_eq word.text (codes "deliver")) (deliver_line past more) flush in
@@ -293,7 +392,7 @@ line_fits past word more =
     (either (bytes_eq word.text (codes "tick")) (tick_line past more) deliver (tick_fits past more)
     (either (bytes_eq word.text (codes "deliver")) (deliver_line past more) flush (deliver_fits past more)
     (either (bytes_eq word.text (codes "flush")) (flush_line more) show (flush_fits more)
-    (either (bytes_eq word.text (codes "show")) (show_line past more) other (show_fits past more) tt))))))
+    (either (bytes_eq word.text (codes "show")) (show_line past more) other (show_fits past more) (byzantine_line_fits past word more)))))))
 
 command_fits : (past : ℕ) (ws : List Word) → IfOk (command_of past ws) IsWellFormed
 command_fits past [] = tt

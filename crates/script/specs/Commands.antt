@@ -3,7 +3,7 @@ use Rattle.std.specs.Prelude.{ℕ, ◌≤◌, ◌<◌, ◌^◌, ◌-◌, List, l
 use Rattle.std.specs.List.{AllByRecursion}
 use Rattle.std.specs.List.Sorted.{IsStrictlyIncreasing}
 use Rattle.script.specs.declared.command.Command.{Command}
-use Rattle.script.specs.declared.command.Command.TheVariants.{Genesis, Submit, Raw, Tick, Deliver, Flush, Show}
+use Rattle.script.specs.declared.command.Command.TheVariants.{Genesis, Submit, Raw, Tick, Deliver, Flush, Show, Propose, Vote, Lie, Seal}
 use Rattle.script.specs.declared.command.Range.{Range}
 
 pub record IsId (id : ℕ) : Type 0 where
@@ -16,6 +16,16 @@ pub record AreIds (ids : List ℕ) : Type 0 where
   pub few : length ids ≤ 31
   pub ascending : IsStrictlyIncreasing ids
   pub each : All IsId ids
+
+-- none, or 1 to 31 ids, strictly ascending
+pub record AreByzantine (ids : List ℕ) : Type 0 where
+  pub few : length ids ≤ 31
+  pub ascending : IsStrictlyIncreasing ids
+  pub each : All IsId ids
+
+pub record IsGenesis (members byzantine : List ℕ) : Type 0 where
+  pub member_ids : AreIds members
+  pub byzantine_ids : AreByzantine byzantine
 
 -- values of single bytes
 abbrev pub AreBytes : List ℕ → Type 0
@@ -48,12 +58,40 @@ pub record IsShow (node number : ℕ) : Type 0 where
   pub node_id : IsId node
   pub number_below : number ≤ 2 ^ 62 - 1
 
+pub record IsPropose (from to view client serial : ℕ) (payload : List ℕ) : Type 0 where
+  pub from_id : IsId from
+  pub to_id : IsId to
+  pub view_below : view ≤ 2 ^ 62 - 1
+  pub client_below : client ≤ 2 ^ 32 - 1
+  pub serial_below : serial ≤ 2 ^ 64 - 1
+  pub few : length payload ≤ 65536
+  pub are_bytes : AreBytes payload
+
+pub record IsVote (from to view entry : ℕ) : Type 0 where
+  pub from_id : IsId from
+  pub to_id : IsId to
+  pub view_below : view ≤ 2 ^ 62 - 1
+  pub entry_below : entry ≤ 2 ^ 62 - 1
+
+pub record IsLie (from to : ℕ) (bytes : List ℕ) : Type 0 where
+  pub from_id : IsId from
+  pub to_id : IsId to
+  pub are_bytes : AreBytes bytes
+
+pub record IsSeal (id : ℕ) (bytes : List ℕ) : Type 0 where
+  pub id_below : id ≤ 2 ^ 32 - 1
+  pub are_bytes : AreBytes bytes
+
 -- a command that a line may mean
 abbrev pub IsWellFormed : Command → Type 0
-IsWellFormed (Genesis members) = AreIds members
+IsWellFormed (Genesis members byzantine) = IsGenesis members byzantine
 IsWellFormed (Submit node client serial payload) = IsSubmit node client serial payload
 IsWellFormed (Raw node bytes) = IsRaw node bytes
 IsWellFormed (Tick node count) = IsTick node count
 IsWellFormed (Deliver ranges) = AreRanges ranges
 IsWellFormed (Flush only) = IfSome only AreIds
 IsWellFormed (Show node number) = IsShow node number
+IsWellFormed (Propose from to view client serial payload) = IsPropose from to view client serial payload
+IsWellFormed (Vote from to kind view entry) = IsVote from to view entry
+IsWellFormed (Lie from to bytes) = IsLie from to bytes
+IsWellFormed (Seal id bytes) = IsSeal id bytes

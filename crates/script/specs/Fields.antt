@@ -1,8 +1,10 @@
 -- What a word may spell.
-use Rattle.std.specs.Prelude.{ℕ, ◌++◌, ◌+◌, ◌-◌, ◌*◌, ◌^◌, ◌==◌, ◌&&◌, Bool, List, [], ◌∷◌, nat_lt, nat_le, length, if◌then◌else◌, Option, Some, None, option_map, option_and_then, codes}
-use Rattle.std.specs.List.{slice_split}
+use Rattle.std.specs.Prelude.{ℕ, ◌++◌, ◌+◌, ◌-◌, ◌*◌, ◌^◌, ◌==◌, ◌&&◌, Bool, List, [], ◌∷◌, nat_lt, nat_le, nat_eq, length, drop, if◌then◌else◌, Option, Some, None, option_map, option_and_then, codes}
+use Rattle.std.specs.List.{slice_split, starts_with}
 use Rattle.std.specs.Str.{bytes_eq}
 use Rattle.script.specs.declared.command.Range.{Range}
+use Rattle.script.specs.declared.command.VoteKind.{VoteKind}
+use Rattle.script.specs.declared.command.VoteKind.TheVariants.{Prepare, Commit}
 
 abbrev pub is_digit : ℕ → Bool
 is_digit b = nat_le 48 b && nat_le b 57
@@ -53,6 +55,10 @@ pairs_of (a ∷ b ∷ more) = onto (pair_of (nibble a) (nibble b)) (pairs_of mor
 unfoldable pub hex_of : List ℕ → Option (List ℕ)
 hex_of text = if bytes_eq text (codes "-") then Some [] else (if length text == 0 then None else pairs_of text)
 
+-- the payload of a request: at most 65,536 bytes
+unfoldable pub payload_of : List ℕ → Option (List ℕ)
+payload_of text = option_and_then (λ bytes. if nat_le (length bytes) 65536 then Some bytes else None) (hex_of text)
+
 -- the parts of what stands behind a separator, if there is one
 abbrev pub parts_left : ℕ → Option (List ℕ) → List (List ℕ)
 parts_left separator None = []
@@ -75,7 +81,15 @@ ids_of text = ids_from 0 31 (slice_split (λ b. b == 44) text)
 abbrev pub given_ids_of : List ℕ → Option (Option (List ℕ))
 given_ids_of text = option_map (λ ids. Some ids) (ids_of text)
 
--- the number of an entry or a block: below 2^62
+-- `byz=IDS`
+unfoldable pub byzantine_of : List ℕ → Option (List ℕ)
+byzantine_of text = if starts_with nat_eq text (codes "byz=") then ids_of (drop 4 text) else None
+
+-- `prepare` or `commit`
+unfoldable pub vote_kind_of : List ℕ → Option VoteKind
+vote_kind_of text = if bytes_eq text (codes "prepare") then Some Prepare else (if bytes_eq text (codes "commit") then Some Commit else None)
+
+-- the number of an entry, a block or a view: below 2^62
 abbrev pub entry_of : List ℕ → Option ℕ
 entry_of text = number_of (2 ^ 62 - 1) text
 

@@ -2,13 +2,13 @@
 use Rattle.std.specs.Prelude.{ℕ, ◌-◌, ◌+◌, ◌^◌, ◌==◌, List, [], ◌∷◌, length, if◌then◌else◌, Result, Ok, Err, codes, Option, Some, None}
 use Rattle.std.specs.Str.{bytes_eq}
 use Rattle.script.specs.declared.command.Command.{Command}
-use Rattle.script.specs.declared.command.Command.TheVariants.{Genesis, Submit, Raw, Tick, Deliver, Flush, Show}
+use Rattle.script.specs.declared.command.Command.TheVariants.{Genesis, Submit, Raw, Tick, Deliver, Flush, Show, Propose, Vote, Lie, Seal}
 use Rattle.script.specs.declared.command.Stop.{Stop}
 use Rattle.script.specs.declared.command.Stop.TheVariants.{Malformed, NotBuilt}
 use Rattle.script.specs.declared.command.Meaning.{Meaning}
 use Rattle.script.specs.declared.command.Meaning.TheVariants.{Nothing, Means, Wrong}
 use Rattle.script.specs.Words.{Word, words}
-use Rattle.script.specs.Fields.{number_of, id_of, ticks_of, hex_of, ids_of, given_ids_of, ranges_of, entry_of}
+use Rattle.script.specs.Fields.{number_of, id_of, ticks_of, hex_of, payload_of, ids_of, given_ids_of, byzantine_of, vote_kind_of, entry_of, ranges_of}
 use Rattle.script.specs.Reading.{◌>>=◌, field, field_or, no_more}
 use Rattle.script.specs.Later.{is_later}
 
@@ -16,14 +16,15 @@ use Rattle.script.specs.Later.{is_later}
 abbrev pub same_as : List ℕ → List ℕ → Option (Unit {0})
 same_as wanted text = if bytes_eq text wanted then Some tt else None
 
--- `genesis bft IDS batch=1`
+-- `genesis bft IDS batch=1 [byz=IDS]`
 unfoldable pub genesis_line : ℕ → List Word → Result Command Stop
 genesis_line past w = do
   kind ← field (same_as (codes "bft")) past w
   members ← field ids_of past kind.1
   batch ← field (same_as (codes "batch=1")) past members.1
-  none ← no_more batch.1
-  Ok (Genesis members.0)
+  byzantine ← field_or [] byzantine_of batch.1
+  none ← no_more byzantine.1
+  Ok (Genesis members.0 byzantine.0)
 
 -- `submit NODE CLIENT SERIAL HEX`
 unfoldable pub submit_line : ℕ → List Word → Result Command Stop
@@ -73,6 +74,55 @@ show_line past w = do
   none ← no_more number.1
   Ok (Show node.0 number.0)
 
+-- `byz-propose FROM TO VIEW CLIENT SERIAL HEX`
+unfoldable pub propose_line : ℕ → List Word → Result Command Stop
+propose_line past w = do
+  from ← field id_of past w
+  to ← field id_of past from.1
+  view ← field entry_of past to.1
+  client ← field (number_of (2 ^ 32 - 1)) past view.1
+  serial ← field (number_of (2 ^ 64 - 1)) past client.1
+  payload ← field payload_of past serial.1
+  none ← no_more payload.1
+  Ok (Propose from.0 to.0 view.0 client.0 serial.0 payload.0)
+
+-- `byz-vote FROM TO prepare VIEW ENTRY`, `byz-vote FROM TO commit VIEW ENTRY`
+unfoldable pub vote_line : ℕ → List Word → Result Command Stop
+vote_line past w = do
+  from ← field id_of past w
+  to ← field id_of past from.1
+  kind ← field vote_kind_of past to.1
+  view ← field entry_of past kind.1
+  entry ← field entry_of past view.1
+  none ← no_more entry.1
+  Ok (Vote from.0 to.0 kind.0 view.0 entry.0)
+
+-- `lie FROM TO HEX`
+unfoldable pub lie_line : ℕ → List Word → Result Command Stop
+lie_line past w = do
+  from ← field id_of past w
+  to ← field id_of past from.1
+  bytes ← field hex_of past to.1
+  none ← no_more bytes.1
+  Ok (Lie from.0 to.0 bytes.0)
+
+-- `seal ID HEX`, also of id 0
+unfoldable pub seal_line : ℕ → List Word → Result Command Stop
+seal_line past w = do
+  id ← field (number_of (2 ^ 32 - 1)) past w
+  bytes ← field hex_of past id.1
+  none ← no_more bytes.1
+  Ok (Seal id.0 bytes.0)
+
+-- a command of a Byzantine member by its first word and those behind it
+unfoldable pub byzantine_line_of : ℕ → Word → List Word → Result Command Stop
+byzantine_line_of past word more =
+    if bytes_eq word.text (codes "byz-propose") then propose_line past more
+    else (if bytes_eq word.text (codes "byz-vote") then vote_line past more
+    else (if bytes_eq word.text (codes "lie") then lie_line past more
+    else (if bytes_eq word.text (codes "seal") then seal_line past more
+    else Err (Malformed word.place))))
+
 -- a command by its first word and those behind it
 unfoldable pub line_of : ℕ → Word → List Word → Result Command Stop
 line_of past word more =
@@ -83,7 +133,7 @@ line_of past word more =
     else (if bytes_eq word.text (codes "deliver") then deliver_line past more
     else (if bytes_eq word.text (codes "flush") then flush_line more
     else (if bytes_eq word.text (codes "show") then show_line past more
-    else Err (Malformed word.place)))))))
+    else byzantine_line_of past word more))))))
 
 -- a command by its words; whether they belong to a later part is looked at first
 abbrev pub command_of : ℕ → List Word → Result Command Stop

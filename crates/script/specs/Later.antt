@@ -7,16 +7,14 @@ use Rattle.script.specs.Words.{Word}
 -- a first word of a later part
 unfoldable pub is_later_word : List ℕ → Bool
 is_later_word text =
-    bytes_eq text (codes "byz-propose") || bytes_eq text (codes "byz-vote") || bytes_eq text (codes "byz-change")
-    || bytes_eq text (codes "byz-report") || bytes_eq text (codes "lie") || bytes_eq text (codes "seal") || bytes_eq text (codes "stop")
-    || bytes_eq text (codes "stop-at") || bytes_eq text (codes "start") || bytes_eq text (codes "config")
-    || bytes_eq text (codes "join")
+    bytes_eq text (codes "byz-change") || bytes_eq text (codes "byz-report") || bytes_eq text (codes "stop") || bytes_eq text (codes "stop-at")
+    || bytes_eq text (codes "start") || bytes_eq text (codes "config") || bytes_eq text (codes "join")
 
 -- a word begins like an option of `genesis` of a later part
 unfoldable pub is_later_option : List ℕ → Bool
 is_later_option text =
-    starts_with nat_eq text (codes "byz=") || starts_with nat_eq text (codes "rotation=") || starts_with nat_eq text (codes "wait=")
-    || starts_with nat_eq text (codes "pool=") || starts_with nat_eq text (codes "extra=")
+    starts_with nat_eq text (codes "rotation=") || starts_with nat_eq text (codes "wait=") || starts_with nat_eq text (codes "pool=")
+    || starts_with nat_eq text (codes "extra=")
 
 -- `genesis` of the kind `raft`, with an option of a later part, or without the batch of one request
 unfoldable pub is_later_genesis : List Word → Bool

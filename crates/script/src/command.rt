@@ -10,12 +10,21 @@ pub struct Range {
     pub last: u64,
 }
 
+/// Which vote a member gives.
+#[derive(Clone, Copy, Debug, PartialEq, Eq)]
+pub enum VoteKind {
+    Prepare,
+    Commit,
+}
+
 /// What a line asks for.
 #[derive(Drop)]
 pub enum Command {
-    /// A world of these members, with batches of one request.
+    /// A world of these members, with batches of one request. These ids are Byzantine; some may be
+    /// no members.
     Genesis {
         members: List<u32>,
+        byzantine: List<u32>,
     },
     /// An ordinary request for the pool of a node.
     Submit {
@@ -46,6 +55,35 @@ pub enum Command {
     Show {
         node: u32,
         number: u64,
+    },
+    /// A proposal by a Byzantine member of an ordinary request, whose payload has at most 65,536
+    /// bytes.
+    Propose {
+        from: u32,
+        to: u32,
+        view: u64,
+        client: u32,
+        serial: u64,
+        payload: Bytes,
+    },
+    /// A vote by a Byzantine member for the block that is proposed in this entry of the network.
+    Vote {
+        from: u32,
+        to: u32,
+        kind: VoteKind,
+        view: u64,
+        entry: u64,
+    },
+    /// Bytes that a Byzantine member sends.
+    Lie {
+        from: u32,
+        to: u32,
+        bytes: Bytes,
+    },
+    /// A signature of an id, or of 0, on these bytes.
+    Seal {
+        id: u32,
+        bytes: Bytes,
     },
 }
 

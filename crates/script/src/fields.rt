@@ -1,11 +1,14 @@
 ghost use Rattle.std.specs.Prelude.{◌≡◌, ◌≤◌, ◌<◌, ◌^◌, ◌+◌, ◌-◌, ◌*◌, ◌&&◌, ◌==◌, ◌∷◌, nat_le, nat_lt, if◌then◌else◌, Some, None, IfOk, IfSome, option_copied, length};
 ghost use Rattle.std.specs.List.{slice_split};
-ghost use Rattle.script.specs.Fields.{number_of, digits_from, nibble, pair_of, pairs_of, hex_of, parts_left, ids_of, id_of, ticks_of, entry_of, in_order, range_of, ranges_of};
+ghost use Rattle.script.specs.Fields.{number_of, digits_from, nibble, pair_of, pairs_of, hex_of, payload_of, parts_left, ids_of, byzantine_of, vote_kind_of, id_of, ticks_of, entry_of, in_order, range_of, ranges_of};
 
-use crate::command::Range;
+use crate::command::{Range, VoteKind};
 use memchr::memchr;
 use ord_types::{Bytes, List, NoMemory};
 use std::alloc::Global;
+
+/// How many bytes the payload of a request may have.
+const MOST_PAYLOAD: usize = 65_536;
 
 /// The number with one more digit, if it doesn't pass `most`.
 fn appended(n: u64, b: u8, most: u64) -> Option<u64>
@@ -105,6 +108,17 @@ pub fn hex(alloc: Global, text: &[u8]) -> Result<Option<Bytes>, NoMemory>
     pairs(alloc, text)
 }
 
+/// The payload of a request in hex: at most 65,536 bytes.
+#[tactic(auto, unfolding(crate::specs::Fields::payload_of))]
+pub fn payload(alloc: Global, text: &[u8]) -> Result<Option<Bytes>, NoMemory>
+    ensures { IfOk result (λ found. found ≡ payload_of text.now) }
+{
+    match hex(alloc, text)? {
+        Some(bytes) if bytes.len() <= MOST_PAYLOAD => Ok(Some(bytes)),
+        _ => Ok(None),
+    }
+}
+
 /// The part before the first separator, and what stands behind it.
 pub fn part(text: &[u8], separator: u8) -> (&[u8], Option<&[u8]>)
     ensures parts { slice_split (λ b. b == separator) text.now ≡ result.0.now ∷ parts_left separator (option_copied result.1) }
@@ -139,7 +153,32 @@ pub fn ids(alloc: Global, text: &[u8]) -> Result<Option<List<u32>>, NoMemory>
     Ok(Some(ids))
 }
 
-/// The number of an entry or a block: below 2^62.
+/// `byz=IDS`.
+#[tactic(auto, unfolding(crate::specs::Fields::byzantine_of))]
+pub fn byzantine(alloc: Global, text: &[u8]) -> Result<Option<List<u32>>, NoMemory>
+    ensures { IfOk result (λ found. found ≡ byzantine_of text.now) }
+{
+    match text.strip_prefix(b"byz=") {
+        Some(rest) => ids(alloc, rest),
+        None => Ok(None),
+    }
+}
+
+/// `prepare` or `commit`.
+#[tactic(auto, unfolding(crate::specs::Fields::vote_kind_of))]
+pub fn vote_kind(text: &[u8]) -> Option<VoteKind>
+    ensures { result ≡ vote_kind_of text.now }
+{
+    if text == b"prepare".as_slice() {
+        return Some(VoteKind::Prepare);
+    }
+    if text == b"commit".as_slice() {
+        return Some(VoteKind::Commit);
+    }
+    None
+}
+
+/// The number of an entry, a block or a view: below 2^62.
 pub fn entry(text: &[u8]) -> Option<u64>
     ensures value { result ≡ entry_of text.now }
     ensures below { IfSome result (λ n. n ≤ 2 ^ 62 - 1) }

@@ -11,12 +11,8 @@ use crate::words::Words;
 fn is_later_word(word: &[u8]) -> bool
     ensures { result ≡ is_later_word word.now }
 {
-    word == b"byz-propose".as_slice()
-        || word == b"byz-vote".as_slice()
-        || word == b"byz-change".as_slice()
+    word == b"byz-change".as_slice()
         || word == b"byz-report".as_slice()
-        || word == b"lie".as_slice()
-        || word == b"seal".as_slice()
         || word == b"stop".as_slice()
         || word == b"stop-at".as_slice()
         || word == b"start".as_slice()
@@ -29,8 +25,7 @@ fn is_later_word(word: &[u8]) -> bool
 fn is_later_option(word: &[u8]) -> bool
     ensures { result ≡ is_later_option word.now }
 {
-    word.starts_with(b"byz=")
-        || word.starts_with(b"rotation=")
+    word.starts_with(b"rotation=")
         || word.starts_with(b"wait=")
         || word.starts_with(b"pool=")
         || word.starts_with(b"extra=")

@@ -1,12 +1,12 @@
 ghost use Rattle.std.specs.Prelude.{◌≡◌, ◌≤◌, ◌+◌, ◌^◌, ◌-◌, ◌∷◌, [], IsNone, IfNone, IfSome, IfOk, IfErr, None, length, nat_lt};
 ghost use Rattle.script.specs.declared.command.Stop.TheVariants.{Malformed};
 ghost use Rattle.script.specs.Words.{words_left};
-ghost use Rattle.script.specs.Fields.{number_of, id_of, ticks_of, hex_of, ids_of, given_ids_of, entry_of, ranges_of};
+ghost use Rattle.script.specs.Fields.{number_of, id_of, ticks_of, hex_of, payload_of, ids_of, given_ids_of, byzantine_of, vote_kind_of, entry_of, ranges_of};
 ghost use Rattle.script.specs.Grammar.{same_as};
 ghost use Rattle.script.specs.Reading.{Reads, Gives, field, field_or, no_more};
 
-use crate::command::{Halt, Range, malformed};
-use crate::fields::{entry, hex, id, ids, number, ranges, ticks};
+use crate::command::{Halt, Range, VoteKind, malformed};
+use crate::fields::{byzantine, entry, hex, id, ids, number, payload, ranges, ticks, vote_kind};
 use memchr::memchr;
 use ord_types::{Bytes, List};
 use std::alloc::Global;
@@ -136,7 +136,7 @@ impl<'a> Words<'a> {
         }
     }
 
-    /// The number of an entry or a block.
+    /// The number of an entry, a block or a view.
     pub fn entry(&mut self) -> Result<u64, Halt>
         ensures line { self.new.line.now ≡ self.old.line.now }
         ensures reads { Reads result (words_left self.new.line.now self.new.from) (field entry_of (length self.old.line.now + 1) (words_left self.old.line.now self.old.from)) }
@@ -156,6 +156,30 @@ impl<'a> Words<'a> {
         let (place, word) = self.word()?;
         match hex(alloc, word)? {
             Some(bytes) => Ok(bytes),
+            None => Err(malformed(place)),
+        }
+    }
+
+    /// The payload of a request in hex.
+    pub fn payload(&mut self, alloc: Global) -> Result<Bytes, Halt>
+        ensures line { self.new.line.now ≡ self.old.line.now }
+        ensures reads { Reads result (words_left self.new.line.now self.new.from) (field payload_of (length self.old.line.now + 1) (words_left self.old.line.now self.old.from)) }
+    {
+        let (place, word) = self.word()?;
+        match payload(alloc, word)? {
+            Some(bytes) => Ok(bytes),
+            None => Err(malformed(place)),
+        }
+    }
+
+    /// Which vote.
+    pub fn vote_kind(&mut self) -> Result<VoteKind, Halt>
+        ensures line { self.new.line.now ≡ self.old.line.now }
+        ensures reads { Reads result (words_left self.new.line.now self.new.from) (field vote_kind_of (length self.old.line.now + 1) (words_left self.old.line.now self.old.from)) }
+    {
+        let (place, word) = self.word()?;
+        match vote_kind(word) {
+            Some(kind) => Ok(kind),
             None => Err(malformed(place)),
         }
     }
@@ -182,6 +206,20 @@ impl<'a> Words<'a> {
         };
         match ids(alloc, word)? {
             Some(ids) => Ok(Some(ids)),
+            None => Err(malformed(place)),
+        }
+    }
+
+    /// `byz=IDS`, no ids where there is no word.
+    pub fn byzantine(&mut self, alloc: Global) -> Result<List<u32>, Halt>
+        ensures line { self.new.line.now ≡ self.old.line.now }
+        ensures reads { Reads result (words_left self.new.line.now self.new.from) (field_or [] byzantine_of (words_left self.old.line.now self.old.from)) }
+    {
+        let Some((place, word)) = self.next() else {
+            return Ok(List::new(alloc));
+        };
+        match byzantine(alloc, word)? {
+            Some(ids) => Ok(ids),
             None => Err(malformed(place)),
         }
     }

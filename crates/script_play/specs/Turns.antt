@@ -1,7 +1,7 @@
 -- What a command prints, and where it leads.
 use Rattle.std.specs.Prelude.{◌≡◌, ℕ, List, ◌++◌, Result, Ok, Err, Option, MatchOption}
 use Rattle.script_play.specs.declared.ending.Ending.{Ending}
-use Rattle.script_play.specs.declared.ending.Ending.TheVariants.{Done, MalformedLine, LaterLine, Limit}
+use Rattle.script_play.specs.declared.ending.Ending.TheVariants.{Done, MalformedLine, LaterLine, Limit, TooManyFaulty}
 
 -- a turn: its text, and the world after it or how the run ends
 pub record Turn (W : Type 0) : Type 0 where
@@ -13,9 +13,10 @@ pub record Turned {W : Type 0} (turn : Turn W) (before after : List ℕ) (world 
   pub printed : after ≡ before ++ turn.printed
   pub next : MatchOption ending (turn.next ≡ Ok world) (λ e. turn.next ≡ Err e)
 
--- an ending by a limit
-abbrev pub IsLimit : Ending → Type 0
-IsLimit Done = ⊥
-IsLimit (MalformedLine number place) = ⊥
-IsLimit (LaterLine number) = ⊥
-IsLimit (Limit limit) = Unit {0}
+-- an ending that a command may bring: a limit, or too many faulty members
+abbrev pub EndsTurn : Ending → Type 0
+EndsTurn Done = ⊥
+EndsTurn (MalformedLine number place) = ⊥
+EndsTurn (LaterLine number) = ⊥
+EndsTurn (Limit limit) = Unit {0}
+EndsTurn (TooManyFaulty number config count bound) = Unit {0}

@@ -17,6 +17,17 @@ pub enum Ending {
     LaterLine(u64),
     /// The limit that was reached.
     Limit(u64),
+    /// A configuration came into force with more Byzantine members than its bound.
+    TooManyFaulty {
+        /// The number of the line.
+        number: u64,
+        /// The number of the configuration.
+        config: u64,
+        /// How many of its members are Byzantine.
+        count: u32,
+        /// How many may be.
+        bound: u32,
+    },
 }
 
 /// What else ends a run.

@@ -13,3 +13,4 @@ pub use ending::{Ending, Fault};
 pub use machine::Machine;
 pub use player::play;
 pub use statuses::{fault_status, status};
+pub use texts::put_too_many_faulty;

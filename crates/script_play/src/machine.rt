@@ -1,7 +1,7 @@
 ghost use Rattle.std.specs.Prelude.{◌≡◌, ◌++◌, ℕ, List, IfOk, IfSome, OnOk, string_bytes};
 ghost use Rattle.script.specs.Commands.{IsWellFormed};
 ghost use Rattle.script.specs.declared.command.Command.{Command};
-ghost use Rattle.script_play.specs.Turns.{Turn, Turned, IsLimit};
+ghost use Rattle.script_play.specs.Turns.{Turn, Turned, EndsTurn};
 
 use crate::ending::Ending;
 use ord_types::NoMemory;
@@ -21,7 +21,8 @@ pub trait Machine {
     /// What is printed at the end of a script.
     ghost closing_of: { World → List ℕ };
 
-    /// Does what the command of this line asks, and adds its text. `Some` ends the run, at a limit alone.
+    /// Does what the command of this line asks, and adds its text. `Some` ends the run,
+    /// at a limit or where too many members are faulty.
     fn turn(
         &mut self,
         number: u64,
@@ -29,7 +30,7 @@ pub trait Machine {
         text: &mut String,
     ) -> Result<Option<Ending>, NoMemory>
         requires { IsWellFormed command }
-        ensures limit { IfOk result (λ ending. IfSome ending IsLimit) }
+        ensures ends { IfOk result (λ ending. IfSome ending EndsTurn) }
         ensures turned { IfOk result (λ ending. Turned (turn_of (world self.old) number command) (string_bytes text.old) (string_bytes text.new) (world self.new) ending) };
 
     /// Adds the text at the end of the script.

@@ -11,6 +11,7 @@ pub fn status(ending: Ending) -> u8
     match ending {
         Ending::Done => 0,
         Ending::MalformedLine(..) => 3,
+        Ending::TooManyFaulty { .. } => 5,
         Ending::Limit(_) => 9,
         Ending::LaterLine(_) => 17,
     }

@@ -1,26 +1,37 @@
-ghost use Rattle.std.specs.Prelude.{◌≡◌, ◌==◌, ◌++◌, ℕ, Ok, codes, decimal, if◌then◌else◌};
+ghost use Rattle.std.specs.Prelude.{◌≡◌, ◌==◌, ◌++◌, ℕ, Ok, Err, codes, decimal, if◌then◌else◌};
 ghost use Rattle.script_play.specs.Runs.{limit_turn};
+ghost use Rattle.script_play.specs.declared.ending.Ending.TheVariants.{TooManyFaulty};
+ghost use Rattle.script_play.specs.Texts.{too_many_faulty_text};
 
 use crate::ending::{Ending, Fault};
 use crate::machine::Machine;
 use crate::player::play;
 use crate::statuses::{fault_status, status};
-use crate::texts::put_limit;
+use crate::texts::{put_limit, put_too_many_faulty};
 use ord_types::{Bytes, List, MemSink, MemSource, NoMemory};
 use script::Command;
 use std::alloc::Global;
 use std::test::Fail;
 
-/// Says that a command was done, and ends the run at line 5.
+/// Says that a command was done, and ends the run at line 5 by a limit, and at line 6 because too many
+/// are faulty.
 #[derive(Drop)]
 struct Echo;
+
+/// How line 6 ends a run.
+const TOO_MANY: Ending = Ending::TooManyFaulty {
+    number: 6,
+    config: 3,
+    count: 2,
+    bound: 1,
+};
 
 impl Machine for Echo {
     ghost World = { Unit {0} };
 
     ghost world = { λ _. tt };
 
-    ghost turn_of = { λ world number command. if number == 5 then limit_turn 5 7 else (record { printed = decimal number ++ codes " done\n"; next = Ok world }) };
+    ghost turn_of = { λ world number command. if number == 5 then limit_turn 5 7 else (if number == 6 then (record { printed = too_many_faulty_text 6 3 2 1; next = Err (TooManyFaulty 6 3 2 1) }) else (record { printed = decimal number ++ codes " done\n"; next = Ok world })) };
 
     ghost closing_of = { λ _. codes "end\n" };
 
@@ -33,6 +44,10 @@ impl Machine for Echo {
         if number == 5 {
             put_limit(text, 5, 7)?;
             return Ok(Some(Ending::Limit(7)));
+        }
+        if number == 6 {
+            put_too_many_faulty(text, 6, 3, 2, 1)?;
+            return Ok(Some(TOO_MANY));
         }
         write!(text, "{number} done\n")?;
         Ok(None)
@@ -88,6 +103,12 @@ fn scripts(rt: HostRuntime) -> Result<(), Fail> {
             b"4 done\n5 limit 7\n",
             Ending::Limit(7),
             9,
+        ),
+        (
+            b"\n\n\nflush\n\nflush\nflush",
+            b"4 done\n6 too many faulty: configuration 3 has 2, bound 1\n",
+            TOO_MANY,
+            5,
         ),
     ] {
         let (result, sink) = played(rt.alloc(), script, 0, 0)?;
