@@ -45,8 +45,8 @@ passed_all : (P : Letter → Type 0) (l : Letter) (ls : List Letter) (b : Bool) 
 passed_all P l ls true passes all = (passes refl, all)
 passed_all P l ls false passes all = all
 
-pub ahead_opens : (c : Config) (id : ℕ) → NothingAhead (past_opens c id)
-ahead_opens c id = record { accepted = λ e v s lt. refl; prepared = λ e v s lt. refl; timely = tt }
+pub ahead_opens : (c : Config) (byzantine : List ℕ) (id : ℕ) → NothingAhead (past_opens c byzantine id)
+ahead_opens c byzantine id = record { accepted = λ e v s lt. refl; prepared = λ e v s lt. refl; timely = tt }
 
 letter_all : (su : Setup) (i : ℕ) (h : History) (accepts : Accepts) (l : Letter) (ms : List Letter) → AllByRecursion (IsAtMost (height i h + 1)) ms
     → AllByRecursion (IsAtMost (height i h + 1)) (filter (is_timely su i h accepts) (l ∷ []) ++ ms)

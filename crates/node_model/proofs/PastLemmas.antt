@@ -55,9 +55,9 @@ self n = eq-eqb n n refl
 
 -- OPENING
 
-pub seen_opens : (c : Config) (id : ℕ) → core_of_past (past_opens c id) ≡ core_opens c id
+pub seen_opens : (c : Config) (byzantine : List ℕ) (id : ℕ) → core_of_past (past_opens c byzantine id) ≡ core_opens c byzantine id
 unfolding place_of view_of genesis_block
-seen_opens c id = refl
+seen_opens c byzantine id = refl
 
 -- A MESSAGE COMES
 

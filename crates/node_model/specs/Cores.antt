@@ -28,8 +28,12 @@ abbrev pub next_place : Place → Block → Cert → Place
 next_place place b cert =
     record { config = place.config; start = place.start; height = place.height + 1; last = block_hash b; last_meta = b.meta; last_cert = Some cert }
 
-abbrev pub core_opens : Config → ℕ → Core
-core_opens c id = record { place = first_place c; view = fresh id (first_place c) }
+abbrev pub core_on : Config → ℕ → Core
+core_on c id = record { place = first_place c; view = fresh id (first_place c) }
+
+-- it knows nothing of who is Byzantine
+abbrev pub core_opens : Config → List ℕ → ℕ → Core
+core_opens c byzantine id = core_on c id
 
 -- a vote message is kept where it is new; one that names the node itself as its sender brings nothing
 abbrev pub core_hears : Option Letter → Accepts → Core → Core

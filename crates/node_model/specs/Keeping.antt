@@ -131,9 +131,12 @@ past_place n = place_of n.setup n.id (facts_of n.past)
 abbrev pub past_view : PastNode → View
 past_view n = view_of n.setup n.id n.past
 
--- nobody lies in the worlds of this stage
-abbrev pub past_opens : Config → ℕ → PastNode
-past_opens c id = record { setup = record { genesis = genesis_block c; config = c; byzantine = [] }; id = id; past = Opened ∷ [] }
+-- what is fixed for a run that begins with the genesis block of a configuration
+abbrev pub setup_on : Config → List ℕ → Setup
+setup_on c byzantine = record { genesis = genesis_block c; config = c; byzantine = byzantine }
+
+abbrev pub past_opens : Config → List ℕ → ℕ → PastNode
+past_opens c byzantine id = record { setup = setup_on c byzantine; id = id; past = Opened ∷ [] }
 
 abbrev pub past_comes : Event → Accepts → PastNode → PastNode
 past_comes event accepts n = record n { past = Came event accepts ∷ n.past }

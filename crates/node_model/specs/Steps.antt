@@ -41,8 +41,8 @@ pub record Ways (S : Type 0) : Type 0 where
   -- where its ledger stands, and what it holds of its view
   pub place : S → Place
   pub view : S → View
-  -- a node of this id on the first block of a configuration
-  pub opens : Config → ℕ → S
+  -- a node of this id on the first block of a configuration, where these ids are Byzantine
+  pub opens : Config → List ℕ → ℕ → S
   -- an event came, at a moment when these signatures were accepted
   pub comes : Event → Accepts → S → S
   -- it accepted the block

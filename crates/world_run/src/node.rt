@@ -14,7 +14,7 @@ ghost use Rattle.bft_wire.specs.declared.message.Message.TheVariants as message_
 ghost use Rattle.node_model.specs.declared.act.Act.TheVariants as act_of;
 ghost use Rattle.node_model.specs.Acts.{View, carried_cert, due, may_propose, proposed};
 ghost use Rattle.node_model.specs.Answers.{after_act};
-ghost use Rattle.node_model.specs.Cores.{Core, core_opens, core_ways, first_place, next_place};
+ghost use Rattle.node_model.specs.Cores.{Core, core_on, core_ways, first_place, next_place};
 ghost use Rattle.node_model.specs.Steps.{
   FromMember,
   Making,
@@ -154,7 +154,7 @@ impl Node {
     pub(crate) fn new(alloc: Global, config: &Config, id: u32) -> Result<Node, NoMemory>
         requires { IsGenesisConfig config.now }
         ensures id { IfOk result (λ node. node.id ≡ id) }
-        ensures core { IfOk result (λ node. record { place = node.place; view = node.view } ≡ core_opens config.now id) }
+        ensures core { IfOk result (λ node. record { place = node.place; view = node.view } ≡ core_on config.now id) }
         ensures pool { IfOk result (λ node. node.pool.items ≡ []) }
         ensures ledger { IfOk result (λ node. node.ledger.items ≡ (genesis_block config.now, proof_of.Raft) ∷ []) }
     {
