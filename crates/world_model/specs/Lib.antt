@@ -1,6 +1,8 @@
 pub mod Cores
 pub mod Histories
+pub mod Liars
 pub mod Pools
+pub mod Says
 pub mod Seen
 pub mod Texts
 pub mod Turns

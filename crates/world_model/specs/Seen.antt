@@ -10,7 +10,7 @@ abbrev pub seen_node : Node PastNode → Node Core
 seen_node node = record { id = node.id; state = core_of_past node.state; pool = node.pool; ledger = node.ledger }
 
 abbrev pub seen : World PastNode History → World Core (Unit {0})
-seen w = record { nodes = map seen_node w.nodes; network = w.network; seals = w.seals; told = tt }
+seen w = record { config = w.config; byzantine = w.byzantine; nodes = map seen_node w.nodes; network = w.network; seals = w.seals; told = tt }
 
 -- where there may be no world yet
 abbrev pub seen_if_any : Option (World PastNode History) → Option (World Core (Unit {0}))

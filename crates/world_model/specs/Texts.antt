@@ -32,6 +32,14 @@ refused_text number reason = decimal number ++ codes " refused " ++ reason ++ co
 unfoldable pub limit_text : ℕ → ℕ → List ℕ
 limit_text number limit = decimal number ++ codes " limit " ++ decimal limit ++ codes "\n"
 
+-- the line of what a Byzantine member sent: its first word, and the number of the entry
+unfoldable pub lied_text : ℕ → List ℕ → ℕ → List ℕ
+lied_text number word sent = decimal number ++ codes " " ++ word ++ codes " " ++ decimal sent ++ codes "\n"
+
+-- the place of a seal
+unfoldable pub seal_text : ℕ → ℕ → List ℕ
+seal_text number place = decimal number ++ codes " seal " ++ decimal place ++ codes "\n"
+
 -- the lines of `submit` and `raw` tell the node and its pool's answer
 
 unfoldable pub admitted_text : ℕ → List ℕ → ℕ → List ℕ
@@ -115,6 +123,10 @@ fact_text number _ = []
 unfoldable pub node_text : ℕ → ℕ → ℕ → ℕ → ℕ → List ℕ
 node_text id height config view left =
     codes "node " ++ decimal id ++ codes " height " ++ decimal height ++ codes " config " ++ decimal config ++ codes " view " ++ decimal view ++ codes " left " ++ decimal left ++ codes "\n"
+
+-- the closing line of a Byzantine member
+unfoldable pub byzantine_text : ℕ → List ℕ
+byzantine_text id = codes "node " ++ decimal id ++ codes " byzantine\n"
 
 unfoldable pub sent_text : ℕ → List ℕ
 sent_text count = codes "sent " ++ decimal count ++ codes "\n"

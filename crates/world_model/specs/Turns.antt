@@ -1,48 +1,28 @@
 -- What each line of a script prints, and the world after it.
-use Rattle.std.specs.Prelude.{ℕ, zero, suc, ◌+◌, ◌-◌, nat_lt, List, [], ◌∷◌, ◌++◌, length, map, codes, position, slice_get, Option, Some, None, Result, Ok, Err, if◌then◌else◌}
+use Rattle.std.specs.Prelude.{ℕ, zero, suc, ◌+◌, ◌-◌, nat_lt, not, List, [], ◌∷◌, ◌++◌, length, map, filter, codes, position, slice_get, Option, Some, None, is_some, Err, if◌then◌else◌}
 use Rattle.std.specs.List.{flat_map}
 use Rattle.ord_types.specs.declared.values.Mode.TheVariants.{Normal}
 use Rattle.ord_types.specs.declared.values.Kind.TheVariants.{Bft}
-use Rattle.ord_types.specs.declared.values.ReqKind.TheVariants.{Ordinary}
+use Rattle.ord_types.specs.Members.{fault_bound, how_many_in, is_in}
 use Rattle.ord_types.specs.declared.values.Proof.{Proof}
 use Rattle.ord_types.specs.declared.values.Proof.TheVariants as proof_of
 use Rattle.ord_types.specs.Genesis.{genesis_block}
 use Rattle.ord_types.specs.Spelling.{request_text}
 use Rattle.safety_model.specs.Blocks.{Block, Config, Request}
 use Rattle.script.specs.declared.command.Command.{Command}
-use Rattle.script.specs.declared.command.Command.TheVariants.{Genesis, Submit, Raw, Show, Tick, Deliver, Flush}
+use Rattle.script.specs.declared.command.Command.TheVariants.{Genesis, Submit, Raw, Show, Tick, Deliver, Flush, Propose, Vote, Lie, Seal}
 use Rattle.script.specs.declared.command.Range.{Range}
-use Rattle.script_play.specs.declared.ending.Ending.{Ending}
-use Rattle.script_play.specs.declared.ending.Ending.TheVariants.{Limit}
+use Rattle.script_play.specs.declared.ending.Ending.TheVariants.{TooManyFaulty}
+use Rattle.script_play.specs.Texts.{too_many_faulty_text}
 use Rattle.script_play.specs.Turns.{Turn}
 use Rattle.node_model.specs.Steps.{Event}
 use Rattle.world_model.specs.Pools.{answer, pool_after}
 use Rattle.world_model.specs.Worlds.{Setting, World, Node, Entry, node_at, with_node, making, world_after, tick_of, entry, letter_from, marked, is_waiting}
-use Rattle.world_model.specs.Texts.{genesis_text, tick_text, deliver_text, flush_text, refused_text, limit_text, answer_text, fact_text, show_text, sent_text, closing_line}
-
-abbrev pub says : {W : Type 0} → List ℕ → W → Turn W
-says text w = record { printed = text; next = Ok w }
-
--- a turn, and one from the world after it
-abbrev pub then_on : {V W : Type 0} → List ℕ → Result V Ending → (V → Turn W) → Turn W
-then_on printed (Ok w) rest = record { printed = printed ++ (rest w).printed; next = (rest w).next }
-then_on printed (Err ending) rest = record { printed = printed; next = Err ending }
-
-abbrev pub goes_on : {V W : Type 0} → Turn V → (V → Turn W) → Turn W
-goes_on turn rest = then_on turn.printed turn.next rest
-
-abbrev pub refuses : {W : Type 0} → ℕ → List ℕ → W → Turn W
-refuses number reason w = says (refused_text number reason) w
+pub use Rattle.world_model.specs.Says.{goes_on, most_entries, ordinary, refuses, says, then_on, within_limit}
+use Rattle.world_model.specs.Liars.{as_liar, as_signer, lie_turn, propose_turn, seal_turn, vote_turn}
+use Rattle.world_model.specs.Texts.{genesis_text, tick_text, deliver_text, flush_text, answer_text, byzantine_text, fact_text, show_text, sent_text, closing_line}
 
 -- AN EVENT prints its blocks; the network has its limit
-
-abbrev pub most_entries : ℕ
-most_entries = 1000000
-
-abbrev pub within_limit : {S T : Type 0} → ℕ → List ℕ → World S T → Turn (World S T)
-within_limit number blocks w =
-    if nat_lt most_entries (length w.network)
-    then record { printed = blocks ++ limit_text number most_entries; next = Err (Limit most_entries) } else says blocks w
 
 unfoldable pub event_turn : {S T : Type 0} → Setting S T → ℕ → World S T → Node S → Event → Turn (World S T)
 event_turn setting number w node event =
@@ -60,13 +40,17 @@ ticks setting number id (suc n) w = goes_on (tick_at setting number w (node_at i
 
 -- DELIVER
 
--- the entry at place k, counted from 0, comes to its receiver
-abbrev pub delivery_to : {S T : Type 0} → Setting S T → ℕ → Entry → World S T → Option (Node S) → Turn (World S T)
-delivery_to setting number e w None = says [] w
-delivery_to setting number e w (Some node) = event_turn setting number w node (letter_from e)
+-- the entry at place k, counted from 0, comes to its receiver; where it has none, it is lost, and has not come
+abbrev pub delivery_to : {S T : Type 0} → Setting S T → ℕ → ℕ → Entry → World S T → Option (Node S) → Turn (World S T)
+delivery_to setting number k e w None = says [] w
+delivery_to setting number k e w (Some node) = event_turn setting number (marked k e w) node (letter_from e)
 
 abbrev pub delivery : {S T : Type 0} → Setting S T → ℕ → ℕ → Entry → World S T → Turn (World S T)
-delivery setting number k e w = delivery_to setting number e (marked k e w) (node_at e.to w.nodes)
+delivery setting number k e w = delivery_to setting number k e w (node_at e.to w.nodes)
+
+-- a lost one isn't counted
+abbrev pub counted : {S : Type 0} → Entry → List (Node S) → ℕ → ℕ
+counted e nodes count = if is_some (node_at e.to nodes) then count + 1 else count
 
 -- n entries from number k on, then the rest with the count
 unfoldable pub deliveries : {S T : Type 0} → Setting S T → ℕ → ℕ → ℕ → ℕ → World S T → (ℕ → World S T → Turn (World S T)) → Turn (World S T)
@@ -74,7 +58,7 @@ deliveries setting number zero k count w rest = rest count w
 deliveries setting number (suc n) k count w rest =
     elim (entry k w) [
       | None ↦ refuses number (codes "no entry") w
-      | Some e ↦ goes_on (delivery setting number (k - 1) e w) (λ next. deliveries setting number n (k + 1) (count + 1) next rest)
+      | Some e ↦ goes_on (delivery setting number (k - 1) e w) (λ next. deliveries setting number n (k + 1) (counted e w.nodes count) next rest)
     ]
 
 unfoldable pub deliver_turn : {S T : Type 0} → Setting S T → ℕ → List Range → ℕ → World S T → Turn (World S T)
@@ -95,7 +79,7 @@ flushes setting number w (Some k) done rest =
 unfoldable pub flush_turn : {S T : Type 0} → Setting S T → ℕ → Option (List ℕ) → ℕ → ℕ → World S T → Turn (World S T)
 flush_turn setting number only zero count w = says (flush_text number count) w
 flush_turn setting number only (suc n) count w =
-    flushes setting number w (position (is_waiting only) w.network) (says (flush_text number count) w)
+    flushes setting number w (position (is_waiting w.nodes only) w.network) (says (flush_text number count) w)
     (λ next. flush_turn setting number only n (count + 1) next)
 
 -- SUBMIT
@@ -108,9 +92,6 @@ submitted node bytes = record node { pool = pool_after node.pool bytes }
 abbrev pub submit_turn : {S T : Type 0} → ℕ → List ℕ → World S T → Node S → List ℕ → Turn (World S T)
 submit_turn number word w node bytes =
     says (answer_text number word node.id (answer node.pool bytes)) (record w { nodes = with_node (submitted node bytes) w.nodes })
-
-abbrev pub ordinary : ℕ → ℕ → List ℕ → Request
-ordinary client serial payload = record { kind = Ordinary; id = record { client = client; serial = serial }; payload = payload }
 
 -- SHOW
 
@@ -135,42 +116,73 @@ first_config members =
       rotation = 0;
     }
 
-abbrev pub first_world : {S T : Type 0} → Setting S T → Config → World S T
-first_world setting c =
+abbrev pub first_node : {S T : Type 0} → Setting S T → Config → List ℕ → ℕ → Node S
+first_node setting c byzantine id = record { id = id; state = setting.ways.opens c byzantine id; pool = []; ledger = (genesis_block c, proof_of.Raft) ∷ [] }
+
+-- a Byzantine member has no node
+abbrev pub first_world : {S T : Type 0} → Setting S T → Config → List ℕ → World S T
+first_world setting c byzantine =
     record {
-      nodes = map (λ id. record { id = id; state = setting.ways.opens c id; pool = []; ledger = (genesis_block c, proof_of.Raft) ∷ [] }) c.members;
+      config = c;
+      byzantine = byzantine;
+      nodes = map (first_node setting c byzantine) (filter (λ id. not (is_in id byzantine)) c.members);
       network = [];
       seals = [];
       told = setting.silent;
     }
 
+-- a genesis with more Byzantine members than the bound of its configuration ends the run
+abbrev pub genesis_turn : {S T : Type 0} → Setting S T → ℕ → List ℕ → List ℕ → Turn (Option (World S T))
+genesis_turn setting number members byzantine =
+    let count = how_many_in byzantine members in
+    let bound = fault_bound (length members) in
+    if nat_lt bound count
+    then record { printed = too_many_faulty_text number 0 count bound; next = Err (TooManyFaulty number 0 count bound) }
+    else says (genesis_text number) (Some (first_world setting (first_config members) byzantine))
+
 -- A COMMAND
 
--- a line about a node that is nowhere in the world is refused
-abbrev pub at_node : {S T : Type 0} → ℕ → World S T → Option (Node S) → (Node S → Turn (World S T)) → Turn (World S T)
-at_node number w None turn = refuses number (codes "unknown node") w
-at_node number w (Some node) turn = turn node
+-- a line about a node that is nowhere in the world is refused, and so is one about a Byzantine member
+abbrev pub absence : {S T : Type 0} → World S T → ℕ → List ℕ
+absence w id = if is_in id w.config.members then codes "no core" else codes "unknown node"
+
+abbrev pub at_found : {S T : Type 0} → ℕ → World S T → ℕ → Option (Node S) → (Node S → Turn (World S T)) → Turn (World S T)
+at_found number w id None turn = refuses number (absence w id) w
+at_found number w id (Some node) turn = turn node
+
+abbrev pub at_node : {S T : Type 0} → ℕ → World S T → ℕ → (Node S → Turn (World S T)) → Turn (World S T)
+at_node number w id turn = at_found number w id (node_at id w.nodes) turn
 
 abbrev pub turn_in : {S T : Type 0} → Setting S T → ℕ → World S T → Command → Turn (World S T)
-turn_in setting number w (Genesis members) = refuses number (codes "second genesis") w
+turn_in setting number w (Genesis members byzantine) = refuses number (codes "second genesis") w
 turn_in setting number w (Submit id client serial payload) =
-    at_node number w (node_at id w.nodes) (λ node. submit_turn number (codes "submit") w node (request_text (ordinary client serial payload)))
-turn_in setting number w (Raw id bytes) = at_node number w (node_at id w.nodes) (λ node. submit_turn number (codes "raw") w node bytes)
-turn_in setting number w (Show id block) = at_node number w (node_at id w.nodes) (λ node. show_turn number w node block)
-turn_in setting number w (Tick id count) = at_node number w (node_at id w.nodes) (λ node. ticks setting number id count w)
+    at_node number w id (λ node. submit_turn number (codes "submit") w node (request_text (ordinary client serial payload)))
+turn_in setting number w (Raw id bytes) = at_node number w id (λ node. submit_turn number (codes "raw") w node bytes)
+turn_in setting number w (Show id block) = at_node number w id (λ node. show_turn number w node block)
+turn_in setting number w (Tick id count) = at_node number w id (λ node. ticks setting number id count w)
 turn_in setting number w (Deliver ranges) = deliver_turn setting number ranges 0 w
 turn_in setting number w (Flush only) = flush_turn setting number only most_flushed 0 w
+turn_in setting number w (Propose from to view client serial payload) =
+    as_liar number w from to (propose_turn setting number w from to view (ordinary client serial payload))
+turn_in setting number w (Vote from to kind view k) = as_liar number w from to (vote_turn number w from to kind view (entry k w))
+turn_in setting number w (Lie from to bytes) = as_liar number w from to (lie_turn number w from to bytes)
+turn_in setting number w (Seal id bytes) = as_signer number w id (seal_turn number w id bytes)
 
 abbrev pub some_world : {S T : Type 0} → World S T → Turn (Option (World S T))
 some_world w = says [] (Some w)
 
 -- the turn of a line, where there may be no world yet
 unfoldable pub turn_of : {S T : Type 0} → Setting S T → Option (World S T) → ℕ → Command → Turn (Option (World S T))
-turn_of setting None number (Genesis members) = says (genesis_text number) (Some (first_world setting (first_config members)))
+turn_of setting None number (Genesis members byzantine) = genesis_turn setting number members byzantine
 turn_of setting None number _ = refuses number (codes "no world") None
 turn_of setting (Some w) number command = goes_on (turn_in setting number w command) some_world
 
--- the closing lines
+-- the closing line of a member
+abbrev pub closing_of_member : {S T : Type 0} → Setting S T → ℕ → Option (Node S) → List ℕ
+closing_of_member setting id None = byzantine_text id
+closing_of_member setting id (Some node) = closing_line setting.ways node
+
+-- the closing lines, by the members' order
 unfoldable pub closing_of : {S T : Type 0} → Setting S T → Option (World S T) → List ℕ
 closing_of setting None = sent_text 0
-closing_of setting (Some w) = flat_map (closing_line setting.ways) w.nodes ++ sent_text (length w.network)
+closing_of setting (Some w) = flat_map (λ id. closing_of_member setting id (node_at id w.nodes)) w.config.members ++ sent_text (length w.network)

@@ -1,10 +1,10 @@
 -- The world of a script, and what an event changes in it.
-use Rattle.std.specs.Prelude.{ℕ, zero, suc, Bool, true, false, ◌&&◌, ◌==◌, not, List, [], ◌∷◌, ◌++◌, length, map, slice_get, slice_set, Option, Some, None, if◌then◌else◌}
+use Rattle.std.specs.Prelude.{ℕ, zero, suc, Bool, true, false, ◌&&◌, ◌==◌, not, List, [], ◌∷◌, ◌++◌, length, map, slice_get, slice_set, Option, Some, None, is_some, if◌then◌else◌}
 use Rattle.std.specs.Int.{w64, to_be_bytes}
 use Rattle.std.specs.List.{flat_map, find}
 use Rattle.ord_types.specs.Members.{is_in}
 use Rattle.ord_types.specs.declared.values.Proof.{Proof}
-use Rattle.safety_model.specs.Blocks.{Block, Request}
+use Rattle.safety_model.specs.Blocks.{Block, Config, Request}
 use Rattle.safety_model.specs.declared.fact.Fact.{Fact}
 use Rattle.safety_model.specs.declared.fact.Fact.TheVariants.{Delivered}
 use Rattle.signer_edge.specs.declared.seals.Seal.{Seal}
@@ -34,8 +34,11 @@ pub record Entry : Type 0 where
   pub bytes : List ℕ
   pub came : Bool
 
--- nodes by rising id; entries and seals in the order in which they were made
+-- Its members are those of the first configuration. A Byzantine one has no node. Nodes stand by rising id; entries and
+-- seals in the order in which they were made.
 pub record World (S T : Type 0) : Type 0 where
+  pub config : Config
+  pub byzantine : List ℕ
   pub nodes : List (Node S)
   pub network : List Entry
   pub seals : List Seal
@@ -100,6 +103,8 @@ sent_by i posts = map (λ (post : Post). record { from = i; to = post.to; bytes 
 abbrev pub world_after : {S T : Type 0} → Setting S T → World S T → Node S → Making S → World S T
 world_after setting w node m =
     record {
+      config = w.config;
+      byzantine = w.byzantine;
       nodes = with_node (node_after node m) w.nodes;
       network = w.network ++ sent_by node.id m.posts;
       seals = w.seals ++ seals_of node.id m.signed;
@@ -124,6 +129,6 @@ abbrev pub is_named : Option (List ℕ) → Entry → Bool
 is_named None e = true
 is_named (Some ids) e = is_in e.from ids && is_in e.to ids
 
--- it has not come yet; every receiver runs, since no node stops
-abbrev pub is_waiting : Option (List ℕ) → Entry → Bool
-is_waiting only e = not e.came && is_named only e
+-- it has not come yet, and its receiver runs: no node stops, and a Byzantine member has none
+abbrev pub is_waiting : {S : Type 0} → List (Node S) → Option (List ℕ) → Entry → Bool
+is_waiting nodes only e = not e.came && is_named only e && is_some (node_at e.to nodes)
