@@ -10,8 +10,6 @@ use Rattle.safety_model.specs.declared.fact.Fact.TheVariants.{Accepted, Prepared
 use Rattle.signer_edge.specs.Accepts.{Accepts}
 use Rattle.signer_edge.specs.Certificates.{is_good_cert}
 use Rattle.signer_edge.specs.Seals.{is_sealed}
-use Rattle.world_model.specs.Turns.{first_config}
-use Rattle.world_safety.specs.Safe.{ids_of}
 use Rattle.world_safety.specs.Within.{PastWorld, all_worlds_of}
 
 -- the proof is a certificate of the block under the configuration (SmartBFT): its signatures are of members, at least a
@@ -31,7 +29,7 @@ IsCertifiedFact accepts c (Delivered i b proof) = IsCertificateOf accepts c b pr
 
 -- every delivery of the world has one under its configuration, of signatures that its box accepts
 abbrev pub IsCertified : PastWorld → Type 0
-IsCertified w = AllByRecursion (IsCertifiedFact (is_sealed w.seals) (first_config (ids_of w.nodes))) w.told
+IsCertified w = AllByRecursion (IsCertifiedFact (is_sealed w.seals) w.config) w.told
 
 -- nothing is said where there is no world yet
 abbrev pub IsCertifiedIn : Option PastWorld → Type 0

@@ -6,10 +6,10 @@ use Rattle.safety_model.specs.Facts.{History, Proof}
 use Rattle.safety_model.specs.declared.fact.Fact.{Fact}
 use Rattle.script_play.specs.declared.ending.Ending.{Ending}
 use Rattle.script_play.specs.declared.ending.Ending.TheVariants.{Done}
-use Rattle.script_play.specs.Texts.{malformed_text, not_built_text}
+use Rattle.script_play.specs.Texts.{malformed_text, not_built_text, too_many_faulty_text}
 use Rattle.world_model.specs.Histories.{past_setting, run_of}
 use Rattle.world_model.specs.Pools as pool
-use Rattle.world_model.specs.Texts.{answer_text, deliver_text, fact_text, flush_text, genesis_text, limit_text, refused_text, show_text, tick_text}
+use Rattle.world_model.specs.Texts.{answer_text, deliver_text, fact_text, flush_text, genesis_text, lied_text, limit_text, refused_text, seal_text, show_text, tick_text}
 use Rattle.world_model.specs.Turns.{closing_of}
 use Rattle.world_model.specs.Worlds.{Node, node_at}
 use Rattle.node_model.specs.Keeping.{PastNode}
@@ -38,15 +38,21 @@ pub data Refusal : Type 0 where
   NoWorld : Refusal
   SecondGenesis : Refusal
   UnknownNode : Refusal
+  NoCore : Refusal
+  NotByzantine : Refusal
   NoEntry : Refusal
   NoBlock : Refusal
+  RaftMessage : Refusal
 
 abbrev pub reason : Refusal → List ℕ
 reason NoWorld = codes "no world"
 reason SecondGenesis = codes "second genesis"
 reason UnknownNode = codes "unknown node"
+reason NoCore = codes "no core"
+reason NotByzantine = codes "not byzantine"
 reason NoEntry = codes "no entry"
 reason NoBlock = codes "no block"
+reason RaftMessage = codes "raft message"
 
 -- what is said of a line in the end, behind its block lines
 pub data Reply : Type 0 where
@@ -62,9 +68,15 @@ pub data Reply : Type 0 where
   -- how many entries came
   Came : ℕ → Reply
   Flushed : ℕ → Reply
+  -- the line's first word, and the number of the entry that a Byzantine member sent
+  Lied : List ℕ → ℕ → Reply
+  -- the place of the seal
+  Sealed : ℕ → Reply
   Refused : Refusal → Reply
   -- the limit that was reached
   Limited : ℕ → Reply
+  -- the number of the configuration, how many of its members are Byzantine, and how many may be
+  Faulty : ℕ → ℕ → ℕ → Reply
   -- the place of the first byte that isn't in the grammar
   Malformed : ℕ → Reply
   NotBuilt : Reply
@@ -77,8 +89,11 @@ reply_text number (Shown node b proof) = show_text number node b proof
 reply_text number (Ticked node) = tick_text number node
 reply_text number (Came count) = deliver_text number count
 reply_text number (Flushed count) = flush_text number count
+reply_text number (Lied word sent) = lied_text number word sent
+reply_text number (Sealed place) = seal_text number place
 reply_text number (Refused refusal) = refused_text number (reason refusal)
 reply_text number (Limited limit) = limit_text number limit
+reply_text number (Faulty config count bound) = too_many_faulty_text number config count bound
 reply_text number (Malformed place) = malformed_text number place
 reply_text number NotBuilt = not_built_text number
 

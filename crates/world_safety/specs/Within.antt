@@ -1,21 +1,29 @@
 -- All worlds that a script goes through: the one after each event of each line, that past the network's limit included.
-use Rattle.std.specs.Prelude.{ℕ, zero, suc, ◌+◌, ◌-◌, nat_lt, List, [], ◌∷◌, ◌++◌, length, map, position, slice_get, Option, Some, None, if◌then◌else◌}
+use Rattle.std.specs.Prelude.{ℕ, zero, suc, ◌+◌, ◌-◌, ◌&&◌, ◌==◌, nat_lt, List, [], ◌∷◌, ◌++◌, length, map, position, slice_get, Option, Some, None, if◌then◌else◌}
 use Rattle.std.specs.List.{AllByRecursion, Contains}
+use Rattle.ord_types.specs.Members.{fault_bound, how_many_in, is_in}
 use Rattle.ord_types.specs.Spelling.{request_text}
+use Rattle.safety_model.specs.Blocks.{Request}
 use Rattle.safety_model.specs.Facts.{History}
 use Rattle.line_flow.specs.Lines.{lines}
 use Rattle.script.specs.Grammar.{meaning}
 use Rattle.script.specs.declared.command.Command.{Command}
-use Rattle.script.specs.declared.command.Command.TheVariants.{Genesis, Submit, Raw, Show, Tick, Deliver, Flush}
+use Rattle.script.specs.declared.command.Command.TheVariants.{Genesis, Submit, Raw, Show, Tick, Deliver, Flush, Propose, Vote, Lie, Seal}
+use Rattle.script.specs.declared.command.VoteKind.{VoteKind}
+use Rattle.script.specs.declared.command.VoteKind.TheVariants.{Prepare, Commit}
 use Rattle.script.specs.declared.command.Meaning.{Meaning}
 use Rattle.script.specs.declared.command.Meaning.TheVariants.{Nothing, Means, Wrong}
 use Rattle.script.specs.declared.command.Range.{Range}
 use Rattle.script_play.specs.Runs.{line_turn, max_line, max_lines}
 use Rattle.script_play.specs.Worlds.{worlds_after}
-use Rattle.node_model.specs.Keeping.{PastNode}
+use Rattle.bft_wire.specs.Reading.{message_in}
+use Rattle.bft_wire.specs.Spelling.{message_text}
+use Rattle.node_model.specs.Keeping.{PastNode, past_place}
+use Rattle.node_model.specs.Letters.{PrePrepare}
 use Rattle.node_model.specs.Steps.{Event}
 use Rattle.world_model.specs.Histories.{Outcome, past_setting, worlds_of}
 use Rattle.world_model.specs.Turns.{delivery, first_config, first_world, most_flushed, ordinary, submitted, tick_at, turn_of}
+use Rattle.world_model.specs.Liars.{commit_for, is_raft_if_any, longest, prepare_for, proposal_of, proposed_in, sig_at, statement_for, with_sent, with_signed}
 use Rattle.world_model.specs.Worlds.{Entry, Node, World, entry, is_waiting, letter_from, making, marked, node_at, tick_of, with_node, world_after}
 
 abbrev pub PastWorld : Type 0
@@ -40,13 +48,13 @@ in_ticks number id (suc n) w =
 
 -- DELIVER
 
-abbrev pub after_letter : Entry → PastWorld → Option (Node PastNode) → PastWorld
-after_letter e w None = w
-after_letter e w (Some node) = after_event w node (letter_from e)
+abbrev pub after_letter : ℕ → Entry → PastWorld → Option (Node PastNode) → PastWorld
+after_letter k e w None = w
+after_letter k e w (Some node) = after_event (marked k e w) node (letter_from e)
 
--- the entry at place k, counted from 0, has come to its receiver
+-- the entry at place k, counted from 0, has come to its receiver, if it has one
 abbrev pub after_delivery : ℕ → Entry → PastWorld → PastWorld
-after_delivery k e w = after_letter e (marked k e w) (node_at e.to w.nodes)
+after_delivery k e w = after_letter k e w (node_at e.to w.nodes)
 
 -- one after each of n entries from number k on, then the rest
 unfoldable pub in_deliveries : ℕ → ℕ → ℕ → PastWorld → (PastWorld → List PastWorld) → List PastWorld
@@ -71,12 +79,41 @@ in_flushes number w (Some k) rest =
 -- one after each of at most n entries, each time the least that waits
 unfoldable pub in_flush : ℕ → Option (List ℕ) → ℕ → PastWorld → List PastWorld
 in_flush number only zero w = []
-in_flush number only (suc n) w = in_flushes number w (position (is_waiting only) w.network) (λ next. in_flush number only n next)
+in_flush number only (suc n) w = in_flushes number w (position (is_waiting w.nodes only) w.network) (λ next. in_flush number only n next)
 
 -- SUBMIT and RAW: bytes come to the pool of a node
 
 abbrev pub after_submit : PastWorld → Node PastNode → List ℕ → PastWorld
 after_submit w node bytes = record w { nodes = with_node (submitted node bytes) w.nodes }
+
+-- WHAT A BYZANTINE MEMBER DOES: it sends, and it signs
+
+-- a line of a member of the world that is Byzantine, to another of the world
+abbrev pub where_liar : PastWorld → ℕ → ℕ → List PastWorld → List PastWorld
+where_liar w from to worlds = if is_in from w.config.members && is_in to w.config.members && is_in from w.byzantine then worlds else []
+
+abbrev pub where_signer : PastWorld → ℕ → List PastWorld → List PastWorld
+where_signer w id worlds = if id == 0 then worlds else where_liar w id id worlds
+
+abbrev pub after_propose : PastWorld → ℕ → ℕ → ℕ → Request → Option (Node PastNode) → List PastWorld
+after_propose w from to v r None = []
+after_propose w from to v r (Some node) = with_sent w from to (message_text (proposal_of (past_place node.state) v r)) ∷ []
+
+abbrev pub after_vote : PastWorld → ℕ → ℕ → VoteKind → ℕ → PrePrepare → PastWorld
+after_vote w from to Prepare v m = with_sent w from to (message_text (prepare_for m v))
+after_vote w from to Commit v m =
+    with_sent (with_signed w from (statement_for m v)) from to (message_text (commit_for m v (sig_at from (length w.seals))))
+
+abbrev pub after_vote_if : PastWorld → ℕ → ℕ → VoteKind → ℕ → Option PrePrepare → List PastWorld
+after_vote_if w from to kind v None = []
+after_vote_if w from to kind v (Some m) = after_vote w from to kind v m ∷ []
+
+abbrev pub after_vote_on : PastWorld → ℕ → ℕ → VoteKind → ℕ → Option Entry → List PastWorld
+after_vote_on w from to kind v None = []
+after_vote_on w from to kind v (Some e) = after_vote_if w from to kind v (proposed_in e.bytes)
+
+abbrev pub after_lie : PastWorld → ℕ → ℕ → List ℕ → List PastWorld
+after_lie w from to bytes = if is_raft_if_any (message_in bytes) then [] else with_sent w from to bytes ∷ []
 
 -- A COMMAND
 
@@ -86,7 +123,7 @@ where_node None worlds = []
 where_node (Some node) worlds = worlds node
 
 abbrev pub worlds_in : ℕ → PastWorld → Command → List PastWorld
-worlds_in number w (Genesis members) = []
+worlds_in number w (Genesis members byzantine) = []
 worlds_in number w (Submit id client serial payload) =
     where_node (node_at id w.nodes) (λ node. after_submit w node (request_text (ordinary client serial payload)) ∷ [])
 worlds_in number w (Raw id bytes) = where_node (node_at id w.nodes) (λ node. after_submit w node bytes ∷ [])
@@ -94,10 +131,17 @@ worlds_in number w (Show id block) = []
 worlds_in number w (Tick id count) = where_node (node_at id w.nodes) (λ node. in_ticks number id count w)
 worlds_in number w (Deliver ranges) = in_deliver number ranges w
 worlds_in number w (Flush only) = in_flush number only most_flushed w
+worlds_in number w (Propose from to view client serial payload) =
+    where_liar w from to (after_propose w from to view (ordinary client serial payload) (longest w.nodes))
+worlds_in number w (Vote from to kind view k) = where_liar w from to (after_vote_on w from to kind view (entry k w))
+worlds_in number w (Lie from to bytes) = where_liar w from to (after_lie w from to bytes)
+worlds_in number w (Seal id bytes) = where_signer w id (with_signed w id bytes ∷ [])
 
 -- where there may be no world yet
 abbrev pub worlds_in_turn : Option PastWorld → ℕ → Command → List (Option PastWorld)
-worlds_in_turn None number (Genesis members) = Some (first_world past_setting (first_config members)) ∷ []
+worlds_in_turn None number (Genesis members byzantine) =
+    if nat_lt (fault_bound (length members)) (how_many_in byzantine members) then []
+    else Some (first_world past_setting (first_config members) byzantine) ∷ []
 worlds_in_turn None number _ = []
 worlds_in_turn (Some w) number command = map Some (worlds_in number w command)
 
