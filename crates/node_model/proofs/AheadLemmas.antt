@@ -15,7 +15,7 @@ use Rattle.signer_edge.specs.Accepts.{Accepts}
 use Rattle.node_model.specs.Letters.{Letter, letter_in, Commit, config_in, view_in, number_in}
 use Rattle.node_model.specs.Answers.{is_near, is_signed}
 use Rattle.node_model.specs.Steps.{Event, Tick, FromMember}
-use Rattle.node_model.specs.Past.{accepted_block, facts_of}
+use Rattle.node_model.specs.Past.{accepted_block, facts_of, Opened, Signed}
 use Rattle.node_model.specs.Keeping.{PastNode, is_prepared_at, is_timely, letter_of, of_another, own_commit, past_accepts, past_comes, past_delivers, past_opens, past_prepares, past_place, past_view, timely}
 use Rattle.node_model.specs.Seen.{IsAtMost, NothingAhead}
 use Rattle.node_model.proofs.PastLemmas.{height_here}
@@ -130,3 +130,14 @@ ahead_delivers b cert n ahead =
       prepared = λ e v s lt. ahead.prepared e v s (omega arith);
       timely = weaker_all (height i h + 1) (length (bs ++ cond (eqb i i) (b ∷ []) []) + 1 + 1) (omega arith) (timely n.setup i n.past) ahead.timely;
     }
+
+pub ahead_signs : (m : Commit) (accepts : Accepts) (n : PastNode) → NothingAhead n → NothingAhead (record n { past = Signed m accepts ∷ n.past })
+ahead_signs m accepts n ahead =
+    record {
+      accepted = ahead.accepted;
+      prepared = ahead.prepared;
+      timely = letter_all n.setup n.id (facts_of n.past) accepts (own_commit n.id m) (timely n.setup n.id n.past) ahead.timely;
+    }
+
+pub ahead_reopens : (n : PastNode) → NothingAhead n → NothingAhead (record n { past = Opened ∷ n.past })
+ahead_reopens n ahead = record { accepted = ahead.accepted; prepared = ahead.prepared; timely = tt }

@@ -1,4 +1,7 @@
 pub mod AheadLemmas
+pub mod DeedLemmas
+pub mod FollowLemmas
 pub mod KeptLemmas
 pub mod PastLemmas
+pub mod RestartLemmas
 pub mod StepLemmas

@@ -32,6 +32,7 @@ use Rattle.node_model.specs.Steps.{Event, Tick, FromMember}
 use Rattle.node_model.specs.Cores.{Core, core_opens, core_comes, core_hears, core_accepts, core_prepares, core_delivers, next_place}
 use Rattle.node_model.specs.Past.{Past, Came, Did, Signed, accepted_block, facts_of}
 use Rattle.node_model.specs.Keeping.{of_another, PastNode, firsts, is_of_view, is_prepared_at, is_timely, own_commit, past_accepts, past_comes, past_delivers, past_opens, past_prepares, past_place, past_view, place_of, start_after, timely, view_of, cert_of_last}
+use Rattle.node_model.specs.Restarts.{core_signs}
 use Rattle.node_model.specs.Seen.{core_of_past, IsAtMost, NothingAhead}
 use Rattle.node_model.proofs.KeptLemmas.{any-kept, all-firsts, kept_next}
 
@@ -340,6 +341,11 @@ seen_prepares d m accepts n =
     ap₂ core_with place
     (view_signed su i (Did (Prepared i e v s d) None ∷ n.past) accepts m ∙ ap₂ (λ p w. kept_after accepts p w (own_commit i m)) place done
     ∙ ap (λ me. kept_after accepts (past_place n) (record (past_view n) { is_prepared = true }) (own_commit me m)) (sym (me_is su i n.past)))
+
+pub seen_signs : (m : Commit) (accepts : Accepts) (n : PastNode) → core_of_past (record n { past = Signed m accepts ∷ n.past }) ≡ core_signs m accepts (core_of_past n)
+seen_signs m accepts n =
+    ap (core_with (past_place n))
+    (view_signed n.setup n.id n.past accepts m ∙ ap (λ me. kept_after accepts (past_place n) (past_view n) (own_commit me m)) (sym (me_is n.setup n.id n.past)))
 
 -- DELIVERING
 

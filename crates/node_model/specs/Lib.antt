@@ -2,9 +2,11 @@ pub mod Acts
 pub mod Answers
 pub mod Checks
 pub mod Cores
+pub mod Deeds
 pub mod Keeping
 pub mod Leading
 pub mod Letters
 pub mod Past
+pub mod Restarts
 pub mod Seen
 pub mod Steps

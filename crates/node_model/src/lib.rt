@@ -4,7 +4,9 @@
 mod act;
 mod agreement;
 mod letter;
+mod restarts;
 
 pub use act::Act;
 pub use agreement::steps_agree;
 pub use letter::{Letter, VoteMessage};
+pub use restarts::{deeds_are_told, restarts_agree};
