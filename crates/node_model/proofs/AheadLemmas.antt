@@ -15,7 +15,7 @@ use Rattle.signer_edge.specs.Accepts.{Accepts}
 use Rattle.node_model.specs.Letters.{Letter, letter_in, Commit, config_in, view_in, number_in}
 use Rattle.node_model.specs.Answers.{is_near, is_signed}
 use Rattle.node_model.specs.Steps.{Event, Tick, FromMember}
-use Rattle.node_model.specs.Past.{accepted_block, facts_of, Opened, Signed}
+use Rattle.node_model.specs.Past.{Did, Opened, Signed, accepted_block, facts_of}
 use Rattle.node_model.specs.Keeping.{PastNode, is_prepared_at, is_timely, letter_of, of_another, own_commit, past_accepts, past_comes, past_delivers, past_opens, past_prepares, past_place, past_view, timely}
 use Rattle.node_model.specs.Seen.{IsAtMost, NothingAhead}
 use Rattle.node_model.proofs.PastLemmas.{height_here}
@@ -96,6 +96,25 @@ ahead_accepts b n ahead =
           let above : height i h < s = omega arith in
           ap (λ t. cond t (Some b) (accepted_block i e v s n.past)) (other_number i e0 v0 s0 i e v s (omega arith)) ∙ ahead.accepted e v s above;
       prepared = λ e v s lt. ahead.prepared e v s (omega arith);
+      timely = weaker_all (height i h + 1) (length (delivered i h ++ []) + 1 + 1) (omega arith) (timely n.setup i n.past) ahead.timely;
+    }
+
+-- a preparation alone, without the Commit
+pub ahead_marks : (d : List ℕ) (n : PastNode) → NothingAhead n
+    → NothingAhead (record n { past = Did (Prepared n.id (past_place n).config.number (past_view n).view (past_place n).height d) None ∷ n.past })
+ahead_marks d n ahead =
+    let i = n.id in
+    let h = facts_of n.past in
+    let same = same_height i (delivered i h) in
+    let here = height_here n.setup i n.past in
+    let e0 = (past_place n).config.number in
+    let v0 = (past_view n).view in
+    let s0 = (past_place n).height in
+    record {
+      accepted = λ e v s lt. ahead.accepted e v s (omega arith);
+      prepared = λ e v s lt.
+          let above : height i h < s = omega arith in
+          ap (λ t. t || has (is_prepared_at i e v s) h) (other_number i e0 v0 s0 i e v s (omega arith)) ∙ ahead.prepared e v s above;
       timely = weaker_all (height i h + 1) (length (delivered i h ++ []) + 1 + 1) (omega arith) (timely n.setup i n.past) ahead.timely;
     }
 

@@ -1,5 +1,5 @@
 -- The deeds of a step are its facts, and what they leave is what a restart after the step finds.
-use Rattle.std.proofs.Common.{◌≡◌, ℕ, Bool, true, false, cond, ◌&&◌, eqb, ap, ap₂, ◌∙◌, sym, refl, List, [], ◌∷◌, ◌++◌, map, length, Option, Some, None}
+use Rattle.std.proofs.Common.{◌≡◌, ℕ, Bool, true, false, cond, ◌&&◌, eqb, ap, ap₂, ◌∙◌, sym, subst, zero, suc, take, refl, List, [], ◌∷◌, ◌++◌, map, length, Option, Some, None}
 use Rattle.std.proofs.lemmas.List.{map-append}
 use Rattle.std.specs.Str.{bytes_eq}
 use Rattle.ord_types.specs.declared.values.Block.{Block}
@@ -9,7 +9,7 @@ use Rattle.signer_edge.specs.Accepts.{Accepts as Accepted}
 use Rattle.node_model.specs.Acts.{View}
 use Rattle.node_model.specs.Answers.{after_act, at_place, fresh, is_new, keep, kept_after, raised}
 use Rattle.node_model.specs.Cores.{Core, core_accepts, core_comes, core_delivers, core_hears, core_prepares, next_place}
-use Rattle.node_model.specs.Deeds.{Deed, Accepts, Prepares, Delivers, Logged, acceptance, preparation, core_did, core_does, deeds_of, fact_of, logged, unlogged}
+use Rattle.node_model.specs.Deeds.{AreStanding, Deed, Accepts, IsStanding, Prepares, Delivers, Logged, acceptance, preparation, core_did, core_does, deeds_of, fact_of, logged, unlogged}
 use Rattle.node_model.specs.Leading.{Place}
 use Rattle.node_model.specs.Letters.{Commit, Letter, letter_in}
 use Rattle.node_model.specs.Restarts.{Returned, Returns, core_reopens, core_signs, returned_returns, step}
@@ -42,7 +42,7 @@ abbrev IsSame : Core → Making (Logged Returned) → Type 0
 IsSame start m = core_reopens m.state.state.core ≡ core_reopens (core_did m.state.deeds start)
 
 abbrev IsGood : Core → Making (Logged Returned) → Type 0
-IsGood start m = AreTold m × IsSame start m
+IsGood start m = AreTold m × IsSame start m × AreStanding start m.state.deeds
 
 abbrev IsStart : Core → Logged Returned → Type 0
 IsStart start l = (l.deeds ≡ []) × (core_reopens l.state.core ≡ core_reopens start)
@@ -96,6 +96,27 @@ more : (deeds : List Deed) (deed : Deed) (start now next : Core) → core_reopen
     → core_reopens next ≡ core_reopens (core_did (deeds ++ deed ∷ []) start)
 more deeds deed start now next taken is = taken ∙ does_same deed now (core_did deeds start) is ∙ ap core_reopens (sym (did_push deeds deed start))
 
+-- STANDING DEEDS
+
+standing_push : (deeds : List Deed) (deed : Deed) (start : Core) → AreStanding start deeds → IsStanding (core_did deeds start) deed → AreStanding start (deeds ++ deed ∷ [])
+standing_push [] deed start all one = (one, tt)
+standing_push (first ∷ deeds) deed start all one = (all.0, standing_push deeds deed (core_does first start) all.1 one)
+
+pub standing_take : (k : ℕ) (deeds : List Deed) (start : Core) → AreStanding start deeds → AreStanding start (take k deeds)
+standing_take zero deeds start all = tt
+standing_take (suc k) [] start all = tt
+standing_take (suc k) (deed ∷ deeds) start all = (all.0, standing_take k deeds (core_does deed start) all.1)
+
+-- what two states have in common whose restarts find the same
+same_acceptance : (b : Block) (c d : Core) → core_reopens c ≡ core_reopens d → acceptance c.place c.view b ≡ acceptance d.place d.view b
+same_acceptance b c d is = ap (λ (x : Core). acceptance x.place x.view b) is
+
+same_preparation : (h : List ℕ) (c d : Core) → core_reopens c ≡ core_reopens d → preparation c.place c.view h ≡ preparation d.place d.view h
+same_preparation h c d is = ap (λ (x : Core). preparation x.place x.view h) is
+
+same_me : (c d : Core) → core_reopens c ≡ core_reopens d → c.view.me ≡ d.view.me
+same_me c d is = ap (λ (x : Core). x.view.me) is
+
 -- the Commit of a step, which the state keeps
 abbrev commit_in : Keys → List ℕ → Making (Logged Returned) → Commit
 commit_in keys d m = commit_message m.state.state.core.place m.state.state.core.view d (keys.signs m.signed)
@@ -132,16 +153,28 @@ logged_follow start =
     record {
       comes = λ event accepts l is. refl;
       begun = λ keys l event is.
-          (ap (map fact_of) is.0, came event (keys.accepts []) l.state.core ∙ is.1 ∙ ap (λ (deeds : List Deed). core_reopens (core_did deeds start)) (sym is.0));
+          (ap (map fact_of) is.0, came event (keys.accepts []) l.state.core ∙ is.1 ∙ ap (λ (deeds : List Deed). core_reopens (core_did deeds start)) (sym is.0), subst (AreStanding start) (sym is.0) tt);
       accepts = λ b m good. refl;
-      accepted = λ b first m good. (added m.state.deeds (acceptance m.state.state.core.place m.state.state.core.view b) m.facts good.0, accepted_good start b m good.1);
+      accepted = λ b first m good. (
+        added m.state.deeds (acceptance m.state.state.core.place m.state.state.core.view b) m.facts good.0,
+        accepted_good start b m good.1,
+        standing_push m.state.deeds (acceptance m.state.state.core.place m.state.state.core.view b) start good.2 (same_acceptance b m.state.state.core (core_did m.state.deeds start) good.1),
+      );
       prepares = λ d commit accepts m good. refl;
-      prepared = λ keys d m good. (added m.state.deeds (preparation m.state.state.core.place m.state.state.core.view d) m.facts good.0, prepared_good start keys d m good.1);
+      prepared = λ keys d m good. (
+        added m.state.deeds (preparation m.state.state.core.place m.state.state.core.view d) m.facts good.0,
+        prepared_good start keys d m good.1,
+        standing_push m.state.deeds (preparation m.state.state.core.place m.state.state.core.view d) start good.2 (same_preparation d m.state.state.core (core_did m.state.deeds start) good.1),
+      );
       delivers = λ b cert m good. refl;
-      delivered = λ b cert m good. (added m.state.deeds (Delivers m.state.state.core.view.me b cert) m.facts good.0, delivered_good start b cert m good.1);
+      delivered = λ b cert m good. (
+        added m.state.deeds (Delivers m.state.state.core.view.me b cert) m.facts good.0,
+        delivered_good start b cert m good.1,
+        standing_push m.state.deeds (Delivers m.state.state.core.view.me b cert) start good.2 (same_me m.state.state.core (core_did m.state.deeds start) good.1),
+      );
       signs = λ commit accepts m good. refl;
       voted = λ b m good. good;
-      signed = λ keys d m good. (good.0, signed_good start keys d m good.1);
+      signed = λ keys d m good. (good.0, signed_good start keys d m good.1, good.2);
     }
 
 logged_same : (keys : Keys) (r : Returned) (event : Event)
@@ -158,3 +191,6 @@ pub deeds_leave : (keys : Keys) (r : Returned) (event : Event) → core_reopens 
 deeds_leave keys r event =
     let all = logged_same keys r event in
     sym all.good.1 ∙ ap (λ (m : Making Returned). core_reopens m.state.core) all.same
+
+pub deeds_stand : (keys : Keys) (r : Returned) (event : Event) → AreStanding r.core (deeds_of returned_returns keys r event)
+deeds_stand keys r event = (logged_same keys r event).good.2

@@ -5,3 +5,4 @@ pub mod KeptLemmas
 pub mod PastLemmas
 pub mod RestartLemmas
 pub mod StepLemmas
+pub mod StopLemmas

@@ -342,6 +342,19 @@ seen_prepares d m accepts n =
     (view_signed su i (Did (Prepared i e v s d) None ∷ n.past) accepts m ∙ ap₂ (λ p w. kept_after accepts p w (own_commit i m)) place done
     ∙ ap (λ me. kept_after accepts (past_place n) (record (past_view n) { is_prepared = true }) (own_commit me m)) (sym (me_is su i n.past)))
 
+-- a preparation alone, without the Commit
+pub seen_marks : (d : List ℕ) (n : PastNode)
+    → core_of_past (record n { past = Did (Prepared n.id (past_place n).config.number (past_view n).view (past_place n).height d) None ∷ n.past })
+    ≡ record (core_of_past n) { view = record (past_view n) { is_prepared = true } }
+seen_marks d n =
+    let i = n.id in
+    let su = n.setup in
+    let e = (past_place n).config.number in
+    let v = (past_view n).view in
+    let s = (past_place n).height in
+    ap₂ core_with (place_prepared su i i e v s d (facts_of n.past))
+    (view_prepared su i e v s d n.past (config_here su i n.past) (view_here su i n.past) (height_here su i n.past))
+
 pub seen_signs : (m : Commit) (accepts : Accepts) (n : PastNode) → core_of_past (record n { past = Signed m accepts ∷ n.past }) ≡ core_signs m accepts (core_of_past n)
 seen_signs m accepts n =
     ap (core_with (past_place n))

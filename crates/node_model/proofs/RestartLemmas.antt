@@ -19,7 +19,7 @@ found_came : (su : Setup) (i : _) (event : Event) (accepts : Accepts) (past : Pa
 found_came su i (Tick offer) accepts past = refl
 found_came su i (FromMember from bytes) accepts past = refl
 
-past_goings : Goings PastNode
+abbrev pub past_goings : Goings PastNode
 past_goings =
     record {
       opens = past_opens;
@@ -31,8 +31,7 @@ past_goings =
       reopens = λ n. record n { past = Opened ∷ n.past };
     }
 
-all_follow : AllFollow returned_returns returned_of_past NothingAhead (λ (m : Making PastNode). NothingAhead m.state) past_goings
-unfolding past_goings
+pub all_follow : AllFollow returned_returns returned_of_past NothingAhead (λ (m : Making PastNode). NothingAhead m.state) past_goings
 all_follow =
     record {
       comes = λ event accepts n ahead. ap₂ with_found (found_came n.setup n.id event accepts n.past) (seen_comes event accepts n);
@@ -49,7 +48,6 @@ all_follow =
     }
 
 pub returns_same : (keys : Keys) (n : PastNode) (event : Event) → NothingAhead n → Stepped returned_of_past (λ (m : Making PastNode). NothingAhead m.state) (step past_returns keys n event) (step returned_returns keys (returned_of_past n) event)
-unfolding past_goings
 returns_same keys n event ahead = step_follows returned_returns returned_of_past NothingAhead (λ (m : Making PastNode). NothingAhead m.state) past_goings all_follow keys n event ahead
 
 pub reopens_same : (n : PastNode) → returned_of_past (past_returns.reopens n) ≡ returned_returns.reopens (returned_of_past n)

@@ -1,5 +1,5 @@
 -- What a node does that is to stand in its log or in its ledger before anything rests on it.
-use Rattle.std.specs.Prelude.{ℕ, List, [], ◌∷◌, ◌++◌, Option, Some, None}
+use Rattle.std.specs.Prelude.{◌≡◌, ℕ, List, [], ◌∷◌, ◌++◌, Option, Some, None, ⊤}
 use Rattle.ord_types.specs.Hashes.{block_hash}
 use Rattle.ord_types.specs.declared.values.Block.{Block}
 use Rattle.ord_types.specs.declared.values.Cert.{Cert}
@@ -84,6 +84,17 @@ core_does (Delivers i b cert) c = core_ways.delivers b cert c
 abbrev pub core_did : List Deed → Core → Core
 core_did [] c = c
 core_did (deed ∷ deeds) c = core_did deeds (core_does deed c)
+
+-- the deed is one that a node which stands so does
+abbrev pub IsStanding : Core → Deed → Type 0
+IsStanding c (Accepts i e v s b) = Accepts i e v s b ≡ acceptance c.place c.view b
+IsStanding c (Prepares i e v s d) = Prepares i e v s d ≡ preparation c.place c.view d
+IsStanding c (Delivers i b cert) = i ≡ c.view.me
+
+-- and so is each of these, where those before it are done
+abbrev pub AreStanding : Core → List Deed → Type 0
+AreStanding c [] = ⊤
+AreStanding c (deed ∷ deeds) = IsStanding c deed × AreStanding (core_does deed c) deeds
 
 -- the block that an acceptance names
 abbrev pub block_of : Deed → Option Block

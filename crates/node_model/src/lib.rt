@@ -9,4 +9,4 @@ mod restarts;
 pub use act::Act;
 pub use agreement::steps_agree;
 pub use letter::{Letter, VoteMessage};
-pub use restarts::{deeds_are_told, restarts_agree};
+pub use restarts::{deeds_are_told, restarts_agree, stops_agree};
