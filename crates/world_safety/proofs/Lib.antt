@@ -11,6 +11,7 @@ pub mod Own
 pub mod Nodes
 pub mod Sealing
 pub mod Placing
+pub mod Backing
 pub mod Sending
 pub mod Makings
 pub mod Reading

@@ -34,7 +34,7 @@ use Rattle.world_safety.proofs.Fits.{FactFits}
 use Rattle.world_safety.proofs.Ids.{member_has}
 use Rattle.world_safety.proofs.Makings.{IsGoodPost, MakingStands, next_stands, told}
 use Rattle.world_safety.proofs.Own.{own_others, stored_more}
-use Rattle.world_safety.proofs.Placing.{IsHonest}
+use Rattle.world_safety.proofs.Placing.{IsBounded}
 use Rattle.world_safety.proofs.Nodes.{IsGoodEvent, NodeStands, ground_more, other_did}
 use Rattle.world_safety.proofs.Reading.{EntryIn, seals_fit}
 use Rattle.world_safety.proofs.Sealing.{IsSealedMaking, IsSealedNode, facts_certified, node_sealed, step_sealed}
@@ -57,7 +57,7 @@ Apart (x ∷ xs) = AllByRecursion (λ y. (y == x) ≡ false) xs × Apart xs
 pub record GoodWorld (su : Setup) (w : World PastNode History) : Type 0 where
   pub first : su ≡ setup_on (first_config su.config.members)
   pub ids : AreIds su.config.members
-  pub honest : IsHonest su
+  pub honest : IsBounded su
   pub run : IsRun su w.told
   pub fit : AllByRecursion FactFits w.told
   pub members : ids_of w.nodes ≡ su.config.members
