@@ -15,7 +15,9 @@ pub mod Backing
 pub mod Sending
 pub mod Makings
 pub mod Reading
+pub mod Proposing
 pub mod Worlds
+pub mod Lying
 pub mod Turns
 pub mod Safety
 pub mod Within
