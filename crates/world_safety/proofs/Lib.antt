@@ -18,6 +18,8 @@ pub mod Reading
 pub mod Proposing
 pub mod Worlds
 pub mod Lying
+pub mod Leads
+pub mod LyingTurns
 pub mod Turns
 pub mod Safety
 pub mod Within

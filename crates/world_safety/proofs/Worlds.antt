@@ -23,7 +23,7 @@ use Rattle.node_model.specs.Keeping.{PastNode}
 use Rattle.node_model.specs.Steps.{Event, Post}
 use Rattle.world_model.specs.Histories.{past_setting}
 use Rattle.world_model.specs.Pools.{has_id}
-use Rattle.world_model.specs.Worlds.{Entry, Node, World, keys_of, making, node_after, requests_in, seals_of, sent_by, stored_in, with_node, world_after}
+use Rattle.world_model.specs.Worlds.{Entry, Node, World, entry, keys_of, making, node_after, requests_in, seals_of, sent_by, stored_in, with_node, world_after}
 use Rattle.world_safety.specs.Certified.{IsCertifiedFact}
 use Rattle.world_safety.specs.Safe.{ids_of, setup_of, stored}
 use Rattle.world_safety.proofs.Lists.{all_append, all_map, all_mapped, all_reverse, all_within}
@@ -239,3 +239,7 @@ pub all_set : (P : Entry → Type 0) (network : List Entry) (k : ℕ) (e : Entry
 all_set P [] k e all good = tt
 all_set P (x ∷ xs) zero e all good = (good, all.1)
 all_set P (x ∷ xs) (suc k) e all good = (all.0, all_set P xs k e all.1 good)
+
+pub entry_in : (su : Setup) (k : ℕ) (e : Entry) (w : World PastNode History) → GoodWorld su w → entry k w ≡ Some e → EntryIn su.byzantine w.told e
+entry_in su zero e w good is = absurd (cc)
+entry_in su (suc k) e w good is = found_entry (EntryIn su.byzantine w.told) w.network k e good.network is
