@@ -53,9 +53,9 @@ went_same see Good printed core_printed (Ok v) core_next rest core_rest same nex
 went_same see Good printed core_printed (Err ending) core_next rest core_rest same next more = rw next (ap (λ (text : List ℕ). record { text = text; ending = ending }) same)
 
 run_same : {V W : Type 0} (see : V → W) (Good : V → Type 0) (turn : V → ℕ → Command → Turn V) (core_turn : W → ℕ → Command → Turn W) (closing : V → List ℕ) (core_closing : W → List ℕ)
-    → SameTurns see Good turn core_turn → ((v : V) → closing v ≡ core_closing (see v)) → (ls : List (List ℕ)) (v : V) (number : ℕ) → Good v → run turn closing ls v number ≡ run core_turn core_closing ls (see v) number
+    → SameTurns see Good turn core_turn → ((v : V) → Good v → closing v ≡ core_closing (see v)) → (ls : List (List ℕ)) (v : V) (number : ℕ) → Good v → run turn closing ls v number ≡ run core_turn core_closing ls (see v) number
 unfolding run
-run_same see Good turn core_turn closing core_closing same closes [] v number good = ap (λ (text : List ℕ). record { text = text; ending = Done }) (closes v)
+run_same see Good turn core_turn closing core_closing same closes [] v number good = ap (λ (text : List ℕ). record { text = text; ending = Done }) (closes v good)
 run_same see Good turn core_turn closing core_closing same closes (line ∷ more) v number good =
     let one = line_same see Good turn core_turn same v number line good in
     went_same see Good (line_turn turn v number line).printed (line_turn core_turn (see v) number line).printed (line_turn turn v number line).next (line_turn core_turn (see v) number line).next

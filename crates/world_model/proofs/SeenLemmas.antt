@@ -1,28 +1,36 @@
 -- Lemmas on a world whose nodes are computed from their pasts, and the same world with states that are updated in place.
-use Rattle.std.proofs.Common.{◌≡◌, ℕ, zero, suc, ◌+◌, ◌-◌, Bool, true, false, cond, eqb, ltb, List, [], ◌∷◌, ◌++◌, map, length, position, slice_get, ap, ap₂, ◌∙◌, refl, subst, Option, Some, None, Result, Ok, Err, codes}
+use Rattle.std.proofs.Common.{◌≡◌, ℕ, zero, suc, ◌+◌, ◌-◌, Bool, true, false, cond, not, ◌&&◌, eqb, ltb, List, [], ◌∷◌, ◌++◌, map, filter, length, position, slice_get, ap, ap₂, ◌∙◌, refl, subst, Option, Some, None, is_some, option_map, Result, Ok, Err, codes}
+use Rattle.std.specs.List.{prefix_len}
 use Rattle.std.specs.List.{AllByRecursion, flat_map}
 use Rattle.script.specs.declared.command.Command.{Command}
 use Rattle.script.specs.declared.command.Command.TheVariants as command_of
 use Rattle.script.specs.declared.command.Range.{Range}
+use Rattle.script.specs.declared.command.VoteKind.{VoteKind}
+use Rattle.script.specs.declared.command.VoteKind.TheVariants as vote_kind
 use Rattle.script_play.specs.declared.ending.Ending.{Ending}
 use Rattle.script_play.specs.Turns.{Turn}
 use Rattle.ord_types.specs.declared.values.Proof.{Proof}
 use Rattle.ord_types.specs.declared.values.Proof.TheVariants as proof_of
 use Rattle.ord_types.specs.Genesis.{genesis_block}
+use Rattle.ord_types.specs.Members.{fault_bound, how_many_in, is_in}
 use Rattle.ord_types.specs.Spelling.{request_text}
-use Rattle.safety_model.specs.Blocks.{Block, Config}
+use Rattle.bft_wire.specs.Reading.{message_in}
+use Rattle.bft_wire.specs.Spelling.{message_text}
+use Rattle.safety_model.specs.Blocks.{Block, Config, Request}
 use Rattle.safety_model.specs.Facts.{History}
 use Rattle.node_model.specs.Steps.{Event, Making}
-use Rattle.node_model.specs.Cores.{Core, core_opens, core_ways}
-use Rattle.node_model.specs.Keeping.{PastNode, past_opens, past_ways}
+use Rattle.node_model.specs.Cores.{Core, core_ways}
+use Rattle.node_model.specs.Keeping.{PastNode, past_place, past_ways}
+use Rattle.node_model.specs.Letters.{PrePrepare}
 use Rattle.node_model.specs.Seen.{core_making, NothingAhead}
 use Rattle.node_model.proofs.AheadLemmas.{ahead_opens}
 use Rattle.node_model.proofs.PastLemmas.{seen_opens}
 use Rattle.node_model.proofs.StepLemmas.{step_same}
 use Rattle.world_model.specs.Pools.{answer}
-use Rattle.world_model.specs.Worlds.{World, Node, Entry, entry, is_waiting, keys_of, letter_from, making, marked, node_after, node_at, tick_of, with_node, world_after}
-use Rattle.world_model.specs.Texts.{fact_text, closing_line, genesis_text, tick_text, deliver_text, flush_text, answer_text, refused_text, show_text, sent_text}
-use Rattle.world_model.specs.Turns.{at_node, closing_of, deliver_turn, deliveries, delivery, delivery_to, event_turn, first_config, first_world, flush_turn, flushes, goes_on, most_entries, most_flushed, ordinary, refuses, says, show_turn, shows, some_world, submit_turn, submitted, then_on, tick_at, ticks, turn_in, turn_of, within_limit}
+use Rattle.world_model.specs.Worlds.{World, Node, Entry, entry, is_waiting, is_named, keys_of, letter_from, making, marked, node_after, node_at, tick_of, with_node, world_after}
+use Rattle.world_model.specs.Texts.{fact_text, closing_line, genesis_text, tick_text, deliver_text, flush_text, answer_text, lied_text, refused_text, seal_text, show_text, sent_text}
+use Rattle.world_model.specs.Liars.{as_liar, as_signer, commit_for, is_raft_if_any, lie_turn, longer, longest, prepare_for, proposal_of, propose_on, propose_turn, proposed_in, seal_turn, sends, sig_at, statement_for, vote_for, vote_if, vote_turn, with_sent, with_signed}
+use Rattle.world_model.specs.Turns.{absence, at_found, at_node, closing_of, closing_of_member, counted, deliver_turn, deliveries, delivery, delivery_to, event_turn, first_config, first_node, first_world, flush_turn, flushes, genesis_turn, goes_on, most_entries, most_flushed, ordinary, refuses, says, show_turn, shows, some_world, submit_turn, submitted, then_on, tick_at, ticks, turn_in, turn_of, within_limit}
 use Rattle.world_model.specs.Cores.{core_setting}
 use Rattle.world_model.specs.Histories.{past_setting}
 use Rattle.world_model.specs.Seen.{seen, seen_if_any, seen_node}
@@ -150,13 +158,24 @@ ticks_same number id (suc n) w all =
 
 -- DELIVER
 
-delivery_to_same : (number : ℕ) (e : Entry) (w : Past) (o : Option (Node PastNode)) (p : Option (Node Core)) → NoneAhead w → SameNode o p
-    → Same (delivery_to past_setting number e w o) (delivery_to core_setting number e (seen w) p)
-delivery_to_same number e w None p all same = rw same (says_same seen NoneAhead [] w all)
-delivery_to_same number e w (Some node) p all same = rw same.0 (event_same number w node (letter_from e) all same.1)
+delivery_to_same : (number k : ℕ) (e : Entry) (w : Past) (o : Option (Node PastNode)) (p : Option (Node Core)) → NoneAhead w → SameNode o p
+    → Same (delivery_to past_setting number k e w o) (delivery_to core_setting number k e (seen w) p)
+delivery_to_same number k e w None p all same = rw same (says_same seen NoneAhead [] w all)
+delivery_to_same number k e w (Some node) p all same = rw same.0 (event_same number (marked k e w) node (letter_from e) all same.1)
 
 delivery_same : (number k : ℕ) (e : Entry) (w : Past) → NoneAhead w → Same (delivery past_setting number k e w) (delivery core_setting number k e (seen w))
-delivery_same number k e w all = delivery_to_same number e (marked k e w) (node_at e.to w.nodes) (node_at e.to (map seen_node w.nodes)) all (node_at_same e.to w.nodes all)
+delivery_same number k e w all = delivery_to_same number k e w (node_at e.to w.nodes) (node_at e.to (map seen_node w.nodes)) all (node_at_same e.to w.nodes all)
+
+-- a receiver is there in both or in neither
+there_same : (o : Option (Node PastNode)) (p : Option (Node Core)) → SameNode o p → is_some o ≡ is_some p
+there_same None p same = rw same refl
+there_same (Some node) p same = rw same.0 refl
+
+runs_same : (id : ℕ) (w : Past) → NoneAhead w → is_some (node_at id w.nodes) ≡ is_some (node_at id (map seen_node w.nodes))
+runs_same id w all = there_same (node_at id w.nodes) (node_at id (map seen_node w.nodes)) (node_at_same id w.nodes all)
+
+counted_same : (e : Entry) (w : Past) (count : ℕ) → NoneAhead w → counted e w.nodes count ≡ counted e (map seen_node w.nodes) count
+counted_same e w count all = ap (λ b. cond b (count + 1) count) (runs_same e.to w all)
 
 -- what follows in one world and in the other
 abbrev SameRest : (ℕ → Past → Turn Past) → (ℕ → InPlace → Turn InPlace) → Type 0
@@ -179,11 +198,13 @@ deliveries_same : (number n k count : ℕ) (w : Past) (rest : ℕ → Past → T
 unfolding deliveries
 deliveries_same number zero k count w rest core_rest all more = more count w all
 deliveries_same number (suc n) k count w rest core_rest all more =
-    let after = λ (next : Past). deliveries past_setting number n (k + 1) (count + 1) next rest in
-    let core_after = λ (next : InPlace). deliveries core_setting number n (k + 1) (count + 1) next core_rest in
-    let then = λ (next : Past) (ahead : NoneAhead next). deliveries_same number n (k + 1) (count + 1) next rest core_rest ahead more in
-    entry_taken number w (entry k w) (entry k (seen w)) (λ e. goes_on (delivery past_setting number (k - 1) e w) after) (λ e. goes_on (delivery core_setting number (k - 1) e (seen w)) core_after) all (entry_same k w)
-    (λ e. goes_on_same seen seen NoneAhead NoneAhead (delivery past_setting number (k - 1) e w) (delivery core_setting number (k - 1) e (seen w)) after core_after (delivery_same number (k - 1) e w all) then)
+    let after = λ (sum : ℕ) (next : Past). deliveries past_setting number n (k + 1) sum next rest in
+    let core_after = λ (sum : ℕ) (next : InPlace). deliveries core_setting number n (k + 1) sum next core_rest in
+    let past = λ (e : Entry). goes_on (delivery past_setting number (k - 1) e w) (after (counted e w.nodes count)) in
+    let core = λ (e : Entry) (sum : ℕ). goes_on (delivery core_setting number (k - 1) e (seen w)) (core_after sum) in
+    let step = λ (e : Entry). goes_on_same seen seen NoneAhead NoneAhead (delivery past_setting number (k - 1) e w) (delivery core_setting number (k - 1) e (seen w)) (after (counted e w.nodes count)) (core_after (counted e w.nodes count)) (delivery_same number (k - 1) e w all) (λ next ahead. deliveries_same number n (k + 1) (counted e w.nodes count) next rest core_rest ahead more) in
+    entry_taken number w (entry k w) (entry k (seen w)) past (λ e. core e (counted e (map seen_node w.nodes) count)) all (entry_same k w)
+    (λ e. subst (λ (sum : ℕ). Same (past e) (core e sum)) (counted_same e w count all) (step e))
 
 deliver_same : (number : ℕ) (ranges : List Range) (count : ℕ) (w : Past) → NoneAhead w → Same (deliver_turn past_setting number ranges count w) (deliver_turn core_setting number ranges count (seen w))
 unfolding deliver_turn
@@ -207,13 +228,30 @@ flushes_same : (number : ℕ) (w : Past) (o : Option ℕ) (done : Turn Past) (co
 flushes_same number w None done core_done rest core_rest all same more = same
 flushes_same number w (Some k) done core_done rest core_rest all same more = flushed_same number k w (slice_get w.network k) done core_done rest core_rest all same more
 
+-- a test that answers the same finds the same place
+prefix_same : {X : Type 0} (p q : X → Bool) → ((x : X) → p x ≡ q x) → (xs : List X) → prefix_len p xs ≡ prefix_len q xs
+prefix_same p q same [] = refl
+prefix_same p q same (x ∷ xs) = ap₂ (λ (b : Bool) (n : ℕ). cond b (1 + n) 0) (same x) (prefix_same p q same xs)
+
+position_same : {X : Type 0} (p q : X → Bool) → ((x : X) → p x ≡ q x) → (xs : List X) → position p xs ≡ position q xs
+position_same p q same xs =
+    ap (λ (n : ℕ). cond (ltb n (length xs)) (Some n) None) (prefix_same (λ x. not (p x)) (λ x. not (q x)) (λ x. ap not (same x)) xs)
+
+waits_same : (only : Option (List ℕ)) (w : Past) → NoneAhead w → position (is_waiting w.nodes only) w.network ≡ position (is_waiting (map seen_node w.nodes) only) w.network
+waits_same only w all =
+    position_same (is_waiting w.nodes only) (is_waiting (map seen_node w.nodes) only)
+    (λ (e : Entry). ap (λ (b : Bool). not e.came && is_named only e && b) (runs_same e.to w all)) w.network
+
 flush_same : (number : ℕ) (only : Option (List ℕ)) (n count : ℕ) (w : Past) → NoneAhead w → Same (flush_turn past_setting number only n count w) (flush_turn core_setting number only n count (seen w))
 unfolding flush_turn
 flush_same number only zero count w all = says_same seen NoneAhead (flush_text number count) w all
 flush_same number only (suc n) count w all =
-    flushes_same number w (position (is_waiting only) w.network) (says (flush_text number count) w) (says (flush_text number count) (seen w))
+    let past = flushes past_setting number w (position (is_waiting w.nodes only) w.network) (says (flush_text number count) w) (λ next. flush_turn past_setting number only n (count + 1) next) in
+    let core = λ (o : Option ℕ). flushes core_setting number (seen w) o (says (flush_text number count) (seen w)) (λ next. flush_turn core_setting number only n (count + 1) next) in
+    subst (λ (o : Option ℕ). Same past (core o)) (waits_same only w all)
+    (flushes_same number w (position (is_waiting w.nodes only) w.network) (says (flush_text number count) w) (says (flush_text number count) (seen w))
     (λ next. flush_turn past_setting number only n (count + 1) next) (λ next. flush_turn core_setting number only n (count + 1) next)
-    all (says_same seen NoneAhead (flush_text number count) w all) (λ next. flush_same number only n (count + 1) next)
+    all (says_same seen NoneAhead (flush_text number count) w all) (λ next. flush_same number only n (count + 1) next))
 
 -- SUBMIT
 
@@ -232,42 +270,127 @@ shows_same number w node (Some stored) all = says_same seen NoneAhead (show_text
 
 -- GENESIS
 
-opened_seen : (c : Config) (ids : List ℕ)
-    → map seen_node (map (λ id. record { id = id; state = past_opens c id; pool = []; ledger = (genesis_block c, proof_of.Raft) ∷ [] }) ids) ≡ map (λ id. record { id = id; state = core_opens c id; pool = []; ledger = (genesis_block c, proof_of.Raft) ∷ [] }) ids
-opened_seen c [] = refl
-opened_seen c (id ∷ ids) = ap₂ (λ s rest. record { id = id; state = s; pool = []; ledger = (genesis_block c, proof_of.Raft) ∷ [] } ∷ rest) (seen_opens c id) (opened_seen c ids)
+opened_seen : (c : Config) (byzantine ids : List ℕ) → map seen_node (map (first_node past_setting c byzantine) ids) ≡ map (first_node core_setting c byzantine) ids
+opened_seen c byzantine [] = refl
+opened_seen c byzantine (id ∷ ids) =
+    ap₂ (λ s rest. record { id = id; state = s; pool = []; ledger = (genesis_block c, proof_of.Raft) ∷ [] } ∷ rest) (seen_opens c byzantine id) (opened_seen c byzantine ids)
 
-opened_ahead : (c : Config) (ids : List ℕ) → AllByRecursion IsAhead (map (λ id. record { id = id; state = past_opens c id; pool = []; ledger = (genesis_block c, proof_of.Raft) ∷ [] }) ids)
-opened_ahead c [] = tt
-opened_ahead c (id ∷ ids) = (ahead_opens c id, opened_ahead c ids)
+opened_ahead : (c : Config) (byzantine ids : List ℕ) → AllByRecursion IsAhead (map (first_node past_setting c byzantine) ids)
+opened_ahead c byzantine [] = tt
+opened_ahead c byzantine (id ∷ ids) = (ahead_opens c byzantine id, opened_ahead c byzantine ids)
 
-first_seen : (c : Config) → seen (first_world past_setting c) ≡ first_world core_setting c
-first_seen c = ap (λ nodes. record { nodes = nodes; network = []; seals = []; told = tt }) (opened_seen c c.members)
+abbrev correct_in : Config → List ℕ → List ℕ
+correct_in c byzantine = filter (λ id. not (is_in id byzantine)) c.members
+
+first_seen : (c : Config) (byzantine : List ℕ) → seen (first_world past_setting c byzantine) ≡ first_world core_setting c byzantine
+first_seen c byzantine = ap (λ nodes. record { config = c; byzantine = byzantine; nodes = nodes; network = []; seals = []; told = tt }) (opened_seen c byzantine (correct_in c byzantine))
+
+-- BYZANTINE MEMBERS
+
+refuses_same : (number : ℕ) (reason : List ℕ) (w : Past) → NoneAhead w → Same (refuses number reason w) (refuses number reason (seen w))
+refuses_same number reason w all = says_same seen NoneAhead (refused_text number reason) w all
+
+either_same : (b : Bool) (p q : Turn Past) (r s : Turn InPlace) → Same p r → Same q s → Same (cond b p q) (cond b r s)
+either_same true p q r s one other = one
+either_same false p q r s one other = other
+
+liar_same : (number : ℕ) (w : Past) (from to : ℕ) (turn : Turn Past) (core_turn : Turn InPlace) → NoneAhead w → Same turn core_turn → Same (as_liar number w from to turn) (as_liar number (seen w) from to core_turn)
+liar_same number w from to turn core_turn all same =
+    either_same (not (is_in from w.config.members && is_in to w.config.members)) (refuses number (codes "unknown node") w) _ (refuses number (codes "unknown node") (seen w)) _ (refuses_same number (codes "unknown node") w all)
+    (either_same (not (is_in from w.byzantine)) (refuses number (codes "not byzantine") w) turn (refuses number (codes "not byzantine") (seen w)) core_turn (refuses_same number (codes "not byzantine") w all) same)
+
+signer_same : (number : ℕ) (w : Past) (id : ℕ) (turn : Turn Past) (core_turn : Turn InPlace) → NoneAhead w → Same turn core_turn → Same (as_signer number w id turn) (as_signer number (seen w) id core_turn)
+signer_same number w id turn core_turn all same = either_same (eqb id 0) turn _ core_turn _ same (liar_same number w id id turn core_turn all same)
+
+sends_same : (number : ℕ) (word : List ℕ) (w : Past) (from to : ℕ) (bytes : List ℕ) → NoneAhead w → Same (sends number word w from to bytes) (sends number word (seen w) from to bytes)
+sends_same number word w from to bytes all =
+    goes_on_same seen seen NoneAhead NoneAhead (within_limit number [] (with_sent w from to bytes)) (within_limit number [] (with_sent (seen w) from to bytes))
+    (λ (sent : Past). says (lied_text number word (length sent.network)) sent) (λ (sent : InPlace). says (lied_text number word (length sent.network)) sent)
+    (within_same number [] (with_sent w from to bytes) all) (λ (sent : Past) ahead. says_same seen NoneAhead (lied_text number word (length sent.network)) sent ahead)
+
+-- the longest ledger is the same node's
+longer_seen : (node : Node PastNode) (o : Option (Node PastNode)) → seen_node (longer node o) ≡ longer (seen_node node) (option_map seen_node o)
+longer_seen node None = refl
+longer_seen node (Some other) = one_seen (ltb (length node.ledger) (length other.ledger)) other node
+  where
+  one_seen : (b : Bool) (x y : Node PastNode) → seen_node (cond b x y) ≡ cond b (seen_node x) (seen_node y)
+  one_seen true x y = refl
+  one_seen false x y = refl
+
+longest_seen : (nodes : List (Node PastNode)) → option_map seen_node (longest nodes) ≡ longest (map seen_node nodes)
+longest_seen [] = refl
+longest_seen (node ∷ nodes) = ap Some (longer_seen node (longest nodes) ∙ ap (longer (seen_node node)) (longest_seen nodes))
+
+propose_on_same : (number : ℕ) (w : Past) (from to v : ℕ) (r : Request) (o : Option (Node PastNode)) → NoneAhead w
+    → Same (propose_on past_setting number w from to v r o) (propose_on core_setting number (seen w) from to v r (option_map seen_node o))
+propose_on_same number w from to v r None all = refuses_same number (codes "no core") w all
+propose_on_same number w from to v r (Some node) all = sends_same number (codes "byz-propose") w from to (message_text (proposal_of (past_place node.state) v r)) all
+
+propose_same : (number : ℕ) (w : Past) (from to v : ℕ) (r : Request) → NoneAhead w → Same (propose_turn past_setting number w from to v r) (propose_turn core_setting number (seen w) from to v r)
+propose_same number w from to v r all =
+    subst (λ (o : Option (Node Core)). Same (propose_turn past_setting number w from to v r) (propose_on core_setting number (seen w) from to v r o)) (longest_seen w.nodes)
+    (propose_on_same number w from to v r (longest w.nodes) all)
+
+vote_for_same : (number : ℕ) (w : Past) (from to : ℕ) (kind : VoteKind) (v : ℕ) (m : PrePrepare) → NoneAhead w → Same (vote_for number w from to kind v m) (vote_for number (seen w) from to kind v m)
+vote_for_same number w from to vote_kind.Prepare v m all = sends_same number (codes "byz-vote") w from to (message_text (prepare_for m v)) all
+vote_for_same number w from to vote_kind.Commit v m all =
+    sends_same number (codes "byz-vote") (with_signed w from (statement_for m v)) from to (message_text (commit_for m v (sig_at from (length w.seals)))) all
+
+vote_if_same : (number : ℕ) (w : Past) (from to : ℕ) (kind : VoteKind) (v : ℕ) (o : Option PrePrepare) → NoneAhead w → Same (vote_if number w from to kind v o) (vote_if number (seen w) from to kind v o)
+vote_if_same number w from to kind v None all = refuses_same number (codes "no block") w all
+vote_if_same number w from to kind v (Some m) all = vote_for_same number w from to kind v m all
+
+vote_on_same : (number : ℕ) (w : Past) (from to : ℕ) (kind : VoteKind) (v : ℕ) (o : Option Entry) → NoneAhead w → Same (vote_turn number w from to kind v o) (vote_turn number (seen w) from to kind v o)
+vote_on_same number w from to kind v None all = refuses_same number (codes "no entry") w all
+vote_on_same number w from to kind v (Some e) all = vote_if_same number w from to kind v (proposed_in e.bytes) all
+
+vote_same : (number : ℕ) (w : Past) (from to : ℕ) (kind : VoteKind) (v k : ℕ) → NoneAhead w → Same (vote_turn number w from to kind v (entry k w)) (vote_turn number (seen w) from to kind v (entry k (seen w)))
+vote_same number w from to kind v k all =
+    subst (λ (o : Option Entry). Same (vote_turn number w from to kind v (entry k w)) (vote_turn number (seen w) from to kind v o)) (entry_same k w) (vote_on_same number w from to kind v (entry k w) all)
+
+lie_same : (number : ℕ) (w : Past) (from to : ℕ) (bytes : List ℕ) → NoneAhead w → Same (lie_turn number w from to bytes) (lie_turn number (seen w) from to bytes)
+lie_same number w from to bytes all =
+    either_same (is_raft_if_any (message_in bytes)) (refuses number (codes "raft message") w) (sends number (codes "lie") w from to bytes) (refuses number (codes "raft message") (seen w)) (sends number (codes "lie") (seen w) from to bytes)
+    (refuses_same number (codes "raft message") w all) (sends_same number (codes "lie") w from to bytes all)
+
+seal_same : (number : ℕ) (w : Past) (id : ℕ) (bytes : List ℕ) → NoneAhead w → Same (seal_turn number w id bytes) (seal_turn number (seen w) id bytes)
+seal_same number w id bytes all = says_same seen NoneAhead (seal_text number (length w.seals)) (with_signed w id bytes) all
 
 -- A COMMAND
 
-at_node_same : (number : ℕ) (w : Past) (o : Option (Node PastNode)) (p : Option (Node Core)) (turn : Node PastNode → Turn Past) (core_turn : Node Core → Turn InPlace)
-    → NoneAhead w → SameNode o p → ((node : Node PastNode) → IsAhead node → Same (turn node) (core_turn (seen_node node))) → Same (at_node number w o turn) (at_node number (seen w) p core_turn)
-at_node_same number w None p turn core_turn all same each = rw same (says_same seen NoneAhead (refused_text number (codes "unknown node")) w all)
-at_node_same number w (Some node) p turn core_turn all same each = rw same.0 (each node same.1)
+at_found_same : (number : ℕ) (w : Past) (id : ℕ) (o : Option (Node PastNode)) (p : Option (Node Core)) (turn : Node PastNode → Turn Past) (core_turn : Node Core → Turn InPlace)
+    → NoneAhead w → SameNode o p → ((node : Node PastNode) → IsAhead node → Same (turn node) (core_turn (seen_node node))) → Same (at_found number w id o turn) (at_found number (seen w) id p core_turn)
+at_found_same number w id None p turn core_turn all same each = rw same (refuses_same number (absence w id) w all)
+at_found_same number w id (Some node) p turn core_turn all same each = rw same.0 (each node same.1)
+
+at_node_same : (number : ℕ) (w : Past) (id : ℕ) (turn : Node PastNode → Turn Past) (core_turn : Node Core → Turn InPlace)
+    → NoneAhead w → ((node : Node PastNode) → IsAhead node → Same (turn node) (core_turn (seen_node node))) → Same (at_node number w id turn) (at_node number (seen w) id core_turn)
+at_node_same number w id turn core_turn all each = at_found_same number w id (node_at id w.nodes) (node_at id (map seen_node w.nodes)) turn core_turn all (node_at_same id w.nodes all) each
 
 turn_same : (number : ℕ) (w : Past) (command : Command) → NoneAhead w → Same (turn_in past_setting number w command) (turn_in core_setting number (seen w) command)
-turn_same number w (command_of.Genesis members) all = says_same seen NoneAhead (refused_text number (codes "second genesis")) w all
+turn_same number w (command_of.Genesis members byzantine) all = refuses_same number (codes "second genesis") w all
 turn_same number w (command_of.Submit id client serial payload) all =
     let bytes = request_text (ordinary client serial payload) in
-    at_node_same number w (node_at id w.nodes) (node_at id (map seen_node w.nodes)) (λ node. submit_turn number (codes "submit") w node bytes) (λ node. submit_turn number (codes "submit") (seen w) node bytes)
-    all (node_at_same id w.nodes all) (λ node ahead. submit_same number (codes "submit") w node bytes all ahead)
+    at_node_same number w id (λ node. submit_turn number (codes "submit") w node bytes) (λ node. submit_turn number (codes "submit") (seen w) node bytes)
+    all (λ node ahead. submit_same number (codes "submit") w node bytes all ahead)
 turn_same number w (command_of.Raw id bytes) all =
-    at_node_same number w (node_at id w.nodes) (node_at id (map seen_node w.nodes)) (λ node. submit_turn number (codes "raw") w node bytes) (λ node. submit_turn number (codes "raw") (seen w) node bytes)
-    all (node_at_same id w.nodes all) (λ node ahead. submit_same number (codes "raw") w node bytes all ahead)
+    at_node_same number w id (λ node. submit_turn number (codes "raw") w node bytes) (λ node. submit_turn number (codes "raw") (seen w) node bytes)
+    all (λ node ahead. submit_same number (codes "raw") w node bytes all ahead)
 turn_same number w (command_of.Show id block) all =
-    at_node_same number w (node_at id w.nodes) (node_at id (map seen_node w.nodes)) (λ node. show_turn number w node block) (λ node. show_turn number (seen w) node block)
-    all (node_at_same id w.nodes all) (λ node ahead. shows_same number w node (slice_get node.ledger block) all)
+    at_node_same number w id (λ node. show_turn number w node block) (λ node. show_turn number (seen w) node block)
+    all (λ node ahead. shows_same number w node (slice_get node.ledger block) all)
 turn_same number w (command_of.Tick id count) all =
-    at_node_same number w (node_at id w.nodes) (node_at id (map seen_node w.nodes)) (λ node. ticks past_setting number id count w) (λ node. ticks core_setting number id count (seen w))
-    all (node_at_same id w.nodes all) (λ node ahead. ticks_same number id count w all)
+    at_node_same number w id (λ node. ticks past_setting number id count w) (λ node. ticks core_setting number id count (seen w))
+    all (λ node ahead. ticks_same number id count w all)
 turn_same number w (command_of.Deliver ranges) all = deliver_same number ranges 0 w all
 turn_same number w (command_of.Flush only) all = flush_same number only most_flushed 0 w all
+turn_same number w (command_of.Propose from to view client serial payload) all =
+    let r = ordinary client serial payload in
+    liar_same number w from to (propose_turn past_setting number w from to view r) (propose_turn core_setting number (seen w) from to view r) all (propose_same number w from to view r all)
+turn_same number w (command_of.Vote from to kind view k) all =
+    liar_same number w from to (vote_turn number w from to kind view (entry k w)) (vote_turn number (seen w) from to kind view (entry k (seen w))) all (vote_same number w from to kind view k all)
+turn_same number w (command_of.Lie from to bytes) all = liar_same number w from to (lie_turn number w from to bytes) (lie_turn number (seen w) from to bytes) all (lie_same number w from to bytes all)
+turn_same number w (command_of.Seal id bytes) all = signer_same number w id (seal_turn number w id bytes) (seal_turn number (seen w) id bytes) all (seal_same number w id bytes all)
 
 -- WHERE THERE MAY BE NO WORLD YET
 
@@ -281,36 +404,51 @@ SameIfAny = SameTurn seen_if_any NoneAheadIfAny
 no_world_same : (number : ℕ) → SameIfAny (refuses number (codes "no world") None) (refuses number (codes "no world") None)
 no_world_same number = says_same seen_if_any NoneAheadIfAny (refused_text number (codes "no world")) None tt
 
-genesis_same : (number : ℕ) (members : List ℕ) → SameIfAny (turn_of past_setting None number (command_of.Genesis members)) (turn_of core_setting None number (command_of.Genesis members))
-unfolding turn_of
-genesis_same number members =
-    let c = first_config members in
-    let first = first_world past_setting c in
-    subst (λ w. SameIfAny (says (genesis_text number) (Some first)) (says (genesis_text number) (Some w))) (first_seen c)
-    (says_same seen_if_any NoneAheadIfAny (genesis_text number) (Some first) (opened_ahead c c.members))
+genesis_if : (b : Bool) (printed : List ℕ) (ending : Ending) (number : ℕ) (c : Config) (byzantine : List ℕ)
+    → SameIfAny (cond b (record { printed = printed; next = Err ending }) (says (genesis_text number) (Some (first_world past_setting c byzantine))))
+    (cond b (record { printed = printed; next = Err ending }) (says (genesis_text number) (Some (first_world core_setting c byzantine))))
+genesis_if true printed ending number c byzantine = record { printed = refl; next = refl }
+genesis_if false printed ending number c byzantine =
+    let first = first_world past_setting c byzantine in
+    subst (λ w. SameIfAny (says (genesis_text number) (Some first)) (says (genesis_text number) (Some w))) (first_seen c byzantine)
+    (says_same seen_if_any NoneAheadIfAny (genesis_text number) (Some first) (opened_ahead c byzantine (correct_in c byzantine)))
+
+genesis_same : (number : ℕ) (members byzantine : List ℕ) → SameIfAny (genesis_turn past_setting number members byzantine) (genesis_turn core_setting number members byzantine)
+genesis_same number members byzantine =
+    genesis_if (ltb (fault_bound (length members)) (how_many_in byzantine members)) _ _ number (first_config members) byzantine
 
 some_same : (w : Past) → NoneAhead w → SameIfAny (some_world w) (some_world (seen w))
 some_same w all = says_same seen_if_any NoneAheadIfAny [] (Some w) all
 
 pub turn_of_same : (o : Option Past) (number : ℕ) (command : Command) → NoneAheadIfAny o → SameIfAny (turn_of past_setting o number command) (turn_of core_setting (seen_if_any o) number command)
 unfolding turn_of
-turn_of_same None number (command_of.Genesis members) all = genesis_same number members
+turn_of_same None number (command_of.Genesis members byzantine) all = genesis_same number members byzantine
 turn_of_same None number (command_of.Submit id client serial payload) all = no_world_same number
 turn_of_same None number (command_of.Raw id bytes) all = no_world_same number
 turn_of_same None number (command_of.Show id block) all = no_world_same number
 turn_of_same None number (command_of.Tick id count) all = no_world_same number
 turn_of_same None number (command_of.Deliver ranges) all = no_world_same number
 turn_of_same None number (command_of.Flush only) all = no_world_same number
+turn_of_same None number (command_of.Propose from to view client serial payload) all = no_world_same number
+turn_of_same None number (command_of.Vote from to kind view k) all = no_world_same number
+turn_of_same None number (command_of.Lie from to bytes) all = no_world_same number
+turn_of_same None number (command_of.Seal id bytes) all = no_world_same number
 turn_of_same (Some w) number command all =
     goes_on_same seen seen_if_any NoneAhead NoneAheadIfAny (turn_in past_setting number w command) (turn_in core_setting number (seen w) command) some_world some_world (turn_same number w command all) some_same
 
 -- THE CLOSING LINES
 
-lines_same : (nodes : List (Node PastNode)) → flat_map (closing_line past_ways) nodes ≡ flat_map (closing_line core_ways) (map seen_node nodes)
-lines_same [] = refl
-lines_same (node ∷ nodes) = ap (λ (text : List ℕ). closing_line past_ways node ++ text) (lines_same nodes)
+line_same : (id : ℕ) (o : Option (Node PastNode)) (p : Option (Node Core)) → SameNode o p → closing_of_member past_setting id o ≡ closing_of_member core_setting id p
+line_same id None p same = rw same refl
+line_same id (Some node) p same = rw same.0 refl
 
-pub closing_same : (o : Option Past) → closing_of past_setting o ≡ closing_of core_setting (seen_if_any o)
+lines_same : (nodes : List (Node PastNode)) → AllByRecursion IsAhead nodes → (ids : List ℕ)
+    → flat_map (λ id. closing_of_member past_setting id (node_at id nodes)) ids ≡ flat_map (λ id. closing_of_member core_setting id (node_at id (map seen_node nodes))) ids
+lines_same nodes all [] = refl
+lines_same nodes all (id ∷ ids) =
+    ap₂ (λ (line lines : List ℕ). line ++ lines) (line_same id (node_at id nodes) (node_at id (map seen_node nodes)) (node_at_same id nodes all)) (lines_same nodes all ids)
+
+pub closing_same : (o : Option Past) → NoneAheadIfAny o → closing_of past_setting o ≡ closing_of core_setting (seen_if_any o)
 unfolding closing_of
-closing_same None = refl
-closing_same (Some w) = ap (λ (text : List ℕ). text ++ sent_text (length w.network)) (lines_same w.nodes)
+closing_same None all = refl
+closing_same (Some w) all = ap (λ (text : List ℕ). text ++ sent_text (length w.network)) (lines_same w.nodes all w.config.members)
