@@ -11,7 +11,8 @@ use Rattle.world_model.specs.Turns.{turn_of}
 use Rattle.world_safety.specs.Telling.{last_of}
 use Rattle.world_safety.specs.Within.{PastWorld, WorldsAreAmongAll, all_worlds_of, worlds_in_line, worlds_in_lines}
 use Rattle.world_safety.proofs.Lists.{all_last, all_parts}
-use Rattle.world_safety.proofs.Telling.{GoesTo, line_tells}
+use Rattle.world_safety.proofs.Telling.{line_tells}
+use Rattle.world_safety.proofs.Tells.{GoesTo}
 
 -- what holds of all worlds holds of those between the lines
 module _ (P : Option PastWorld → Type 0) where

@@ -22,6 +22,9 @@ pub mod Leads
 pub mod LyingTurns
 pub mod Turns
 pub mod Safety
+pub mod LyingWithin
 pub mod Within
+pub mod Tells
+pub mod LyingTells
 pub mod Telling
 pub mod Among
