@@ -23,7 +23,7 @@ module _ (P : Option PastWorld → Type 0) where
       more next (subst P (sym to) (all_last P o here holds parts.0)) parts.1
   behind o here (Err ending) within between holds to all more = tt
 
-  between_lines : (ls : List (List ℕ)) (o : Option PastWorld) (number : ℕ) → P o → AllByRecursion P (worlds_in_lines ls o number) → AllByRecursion P (worlds (turn_of past_setting) ls o number)
+  pub between_lines : (ls : List (List ℕ)) (o : Option PastWorld) (number : ℕ) → P o → AllByRecursion P (worlds_in_lines ls o number) → AllByRecursion P (worlds (turn_of past_setting) ls o number)
   unfolding worlds worlds_in_lines
   between_lines [] o number holds all = (holds, tt)
   between_lines (line ∷ more) o number holds all = (

@@ -18,13 +18,12 @@ pub mod Reading
 pub mod Proposing
 pub mod Worlds
 pub mod Lying
-pub mod Leads
-pub mod LyingTurns
-pub mod Turns
-pub mod Safety
 pub mod LyingWithin
-pub mod Within
+pub mod Beginning
+pub mod Safety
 pub mod Tells
 pub mod LyingTells
 pub mod Telling
+pub mod Turns
 pub mod Among
+pub mod Within

@@ -1,5 +1,5 @@
--- Every world of every script is safe.
-use Rattle.std.proofs.Common.{◌≡◌, ◌≤◌, true, [], length, map, subst, sym, ap, ◌∙◌, Option, Some, None, arith}
+-- A good world is safe.
+use Rattle.std.proofs.Common.{◌≡◌, ◌≤◌, true, length, map, subst, sym, ap, ◌∙◌, Option, Some, None, arith}
 use Rattle.std.specs.List.{AllByRecursion}
 use Rattle.std.proofs.lemmas.List.Elements.{All-from_recursion}
 use Rattle.ord_types.specs.Grammar.{HasBlockSpelling, HasRequestSpelling, IsWord}
@@ -13,16 +13,15 @@ use Rattle.safety_model.specs.declared.fact.Fact.TheVariants.{Delivered}
 use Rattle.safety_model.proofs.Agreeing.{runs_agree}
 use Rattle.script.specs.Commands.{AreIds}
 use Rattle.node_model.specs.Keeping.{PastNode}
-use Rattle.world_model.specs.Histories.{worlds_of}
 use Rattle.world_model.specs.Worlds.{World}
-use Rattle.world_safety.specs.Safe.{AreBacked, EveryWorldIsSafe, IsNoRaftMessage, IsNodeOf, IsReadable, IsSafe, IsSafeWorld, RestsIn, ids_of, setup_of}
+use Rattle.world_safety.specs.Safe.{AreBacked, IsNoRaftMessage, IsNodeOf, IsReadable, IsSafe, IsSafeWorld, RestsIn, ids_of, setup_of}
 use Rattle.world_safety.proofs.Backing.{seals_backed}
 use Rattle.world_safety.proofs.Fits.{FactFits}
 use Rattle.world_safety.proofs.Fitting.{all_stands}
 use Rattle.world_safety.proofs.Lists.{all_map}
 use Rattle.world_safety.proofs.Own.{stored_blocks}
 use Rattle.world_safety.proofs.Reading.{EntryIn}
-use Rattle.world_safety.proofs.Turns.{IsGood, IsGoodIn, worlds_good}
+use Rattle.world_safety.proofs.Beginning.{IsGood, IsGoodIn}
 use Rattle.world_safety.proofs.Worlds.{NodeIn, correct_in}
 
 -- a block that has a spelling fits
@@ -71,6 +70,3 @@ world_safe w is =
 pub good_safe : (o : Option (World PastNode History)) → IsGoodIn o → IsSafe o
 good_safe None good = tt
 good_safe (Some w) good = world_safe w good
-
-pub worlds_safe : EveryWorldIsSafe
-worlds_safe script = all_map IsGoodIn IsSafe good_safe (worlds_of [] script) (worlds_good script)

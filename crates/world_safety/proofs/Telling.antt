@@ -1,15 +1,13 @@
 -- The histories of a script's worlds tell its text.
-use Rattle.std.proofs.Common.{◌≡◌, ℕ, zero, suc, ◌+◌, ◌-◌, Bool, true, false, List, [], ◌∷◌, ◌++◌, length, map, reverse, cond, refl, sym, subst, ap, ap₂, ◌∙◌, Option, Some, None, Result, Ok, Err}
-use Rattle.std.specs.Prelude.{◌==◌, codes, nat_lt, position, slice_get}
-use Rattle.std.specs.List.{AllByRecursion, Contains, find, flat_map}
+use Rattle.std.proofs.Common.{◌≡◌, ℕ, ◌+◌, Bool, true, false, List, [], ◌∷◌, ◌++◌, length, map, reverse, cond, refl, sym, subst, ap, ap₂, ◌∙◌, Option, Some, None, Result, Ok, Err}
+use Rattle.std.specs.Prelude.{◌==◌, codes, nat_lt}
+use Rattle.std.specs.List.{AllByRecursion, Contains}
 use Rattle.std.proofs.lemmas.Bool.{eqb-true}
 use Rattle.std.proofs.lemmas.List.Elements.{All-contains_itself, recursion_from_All}
-use Rattle.std.proofs.lemmas.List.{append-nil, append_assoc, map-append, reverse-append}
+use Rattle.std.proofs.lemmas.List.{append-nil, append_assoc, map-append}
 use Rattle.ord_types.specs.Members.{fault_bound, how_many_in, is_in}
 use Rattle.ord_types.specs.Spelling.{request_text}
-use Rattle.safety_model.specs.Blocks.{Block}
-use Rattle.safety_model.specs.Facts.{History, Proof}
-use Rattle.safety_model.specs.declared.fact.Fact.{Fact}
+use Rattle.safety_model.specs.Facts.{History}
 use Rattle.line_flow.specs.Lines.{lines}
 use Rattle.script.specs.Grammar.{meaning}
 use Rattle.script.specs.declared.command.Command.{Command}
@@ -17,26 +15,23 @@ use Rattle.script.specs.declared.command.Command.TheVariants.{Genesis, Submit, R
 use Rattle.script.specs.declared.command.Meaning.{Meaning}
 use Rattle.script.specs.declared.command.Meaning.TheVariants.{Nothing, Means, Wrong}
 use Rattle.script.specs.declared.command.Stop.TheVariants as stop_of
-use Rattle.script.specs.declared.command.Range.{Range}
 use Rattle.script_play.specs.declared.ending.Ending.{Ending}
-use Rattle.script_play.specs.declared.ending.Ending.TheVariants.{Limit, TooManyFaulty}
+use Rattle.script_play.specs.declared.ending.Ending.TheVariants.{TooManyFaulty}
 use Rattle.script_play.specs.Texts.{too_many_faulty_text}
 use Rattle.script_play.specs.Runs.{Run, limit_turn, line_turn, max_line, max_lines, run, said, went}
 use Rattle.script_play.specs.Turns.{Turn}
 use Rattle.script_play.specs.Worlds.{worlds_after}
 use Rattle.node_model.specs.Keeping.{PastNode}
-use Rattle.node_model.specs.Steps.{Event}
 use Rattle.world_model.specs.Histories.{past_setting}
-use Rattle.world_model.specs.Pools.{answer}
-use Rattle.world_model.specs.Texts.{deliver_text, fact_text, flush_text, genesis_text, limit_text, show_text}
-use Rattle.world_model.specs.Turns.{absence, at_found, closing_of, counted, deliver_turn, deliveries, delivery, delivery_to, event_turn, first_config, first_world, flush_turn, flushes, genesis_turn, goes_on, most_entries, most_flushed, ordinary, refuses, says, show_turn, shows, some_world, submit_turn, then_on, tick_at, ticks, turn_in, turn_of}
-use Rattle.world_model.specs.Worlds.{Entry, Node, entry, is_waiting, letter_from, making, marked, node_at, tick_of}
+use Rattle.world_model.specs.Texts.{genesis_text, limit_text}
+use Rattle.world_model.specs.Turns.{absence, at_found, closing_of, first_config, first_world, genesis_turn, goes_on, most_flushed, ordinary, refuses, says, show_turn, some_world, submit_turn, then_on, ticks, turn_in, turn_of}
+use Rattle.world_model.specs.Worlds.{Node, node_at}
 use Rattle.world_safety.specs.Telling.{EveryTextIsTold, IsShownIn, IsStoredIn, IsTold, NoBlock, NoCore, NoEntry, NoWorld, Part, Refusal, Reply, SecondGenesis, UnknownNode, blocks_text, end_text, events_of, facts_of, histories_after, last_of, part_text, parts_text, reply_text, told_in}
 use Rattle.world_safety.specs.Telling as it
 use Rattle.world_safety.proofs.Lists.{all_last, all_parts}
 use Rattle.world_safety.proofs.LyingTells.{lie_tells, propose_tells, seal_tells, vote_tells}
 use Rattle.world_safety.proofs.Tells.{GoesTo, IsShownAt, Tells, deliver_tells, flush_tells, found_test, histories-append, histories-last, last-append, last-map, replies, same, show_tells, shown_in, submit_tells, ticks_tell, told_some}
-use Rattle.world_safety.specs.Within.{PastWorld, all_worlds_of, after_delivery, after_event, after_letter, after_submit, after_tick, in_deliver, in_deliveries, in_flush, in_flushes, in_ticks, where_node, worlds_in, worlds_in_line, worlds_in_lines, worlds_in_turn, worlds_said}
+use Rattle.world_safety.specs.Within.{PastWorld, all_worlds_of, after_submit, in_ticks, where_node, worlds_in, worlds_in_line, worlds_in_lines, worlds_in_turn, worlds_said}
 
 module _ (number : ℕ) where
   -- A COMMAND

@@ -1,40 +1,26 @@
 -- What a turn prints is told by the histories of its worlds.
 use Rattle.std.proofs.Common.{◌≡◌, ℕ, zero, suc, ◌+◌, ◌-◌, Bool, true, false, List, [], ◌∷◌, ◌++◌, length, map, reverse, cond, refl, sym, subst, ap, ap₂, ◌∙◌, Option, Some, None, Result, Ok, Err}
-use Rattle.std.specs.Prelude.{◌==◌, codes, nat_lt, position, slice_get}
-use Rattle.std.specs.List.{AllByRecursion, Contains, find, flat_map}
-use Rattle.std.proofs.lemmas.Bool.{eqb-true}
-use Rattle.std.proofs.lemmas.List.Elements.{All-contains_itself, recursion_from_All}
-use Rattle.std.proofs.lemmas.List.{append-nil, append_assoc, map-append, reverse-append}
-use Rattle.ord_types.specs.Members.{fault_bound, how_many_in, is_in}
-use Rattle.ord_types.specs.Spelling.{request_text}
+use Rattle.std.specs.Prelude.{codes, nat_lt, position, slice_get}
+use Rattle.std.specs.List.{find, flat_map}
+use Rattle.std.proofs.lemmas.List.{append-nil, append_assoc, reverse-append}
 use Rattle.safety_model.specs.Blocks.{Block}
 use Rattle.safety_model.specs.Facts.{History, Proof}
 use Rattle.safety_model.specs.declared.fact.Fact.{Fact}
-use Rattle.line_flow.specs.Lines.{lines}
-use Rattle.script.specs.Grammar.{meaning}
-use Rattle.script.specs.declared.command.Command.{Command}
-use Rattle.script.specs.declared.command.Command.TheVariants.{Genesis, Submit, Raw, Show, Tick, Deliver, Flush, Propose, Vote, Lie, Seal}
-use Rattle.script.specs.declared.command.Meaning.{Meaning}
-use Rattle.script.specs.declared.command.Meaning.TheVariants.{Nothing, Means, Wrong}
-use Rattle.script.specs.declared.command.Stop.TheVariants as stop_of
 use Rattle.script.specs.declared.command.Range.{Range}
 use Rattle.script_play.specs.declared.ending.Ending.{Ending}
-use Rattle.script_play.specs.declared.ending.Ending.TheVariants.{Limit, TooManyFaulty}
-use Rattle.script_play.specs.Texts.{too_many_faulty_text}
-use Rattle.script_play.specs.Runs.{Run, limit_turn, line_turn, max_line, max_lines, run, said, went}
+use Rattle.script_play.specs.declared.ending.Ending.TheVariants.{Limit}
 use Rattle.script_play.specs.Turns.{Turn}
 use Rattle.script_play.specs.Worlds.{worlds_after}
 use Rattle.node_model.specs.Keeping.{PastNode}
 use Rattle.node_model.specs.Steps.{Event}
 use Rattle.world_model.specs.Histories.{past_setting}
 use Rattle.world_model.specs.Pools.{answer}
-use Rattle.world_model.specs.Texts.{deliver_text, fact_text, flush_text, genesis_text, limit_text, show_text}
-use Rattle.world_model.specs.Turns.{absence, at_found, closing_of, counted, deliver_turn, deliveries, delivery, delivery_to, event_turn, first_config, first_world, flush_turn, flushes, genesis_turn, goes_on, most_entries, most_flushed, ordinary, refuses, says, show_turn, shows, some_world, submit_turn, then_on, tick_at, ticks, turn_in, turn_of}
+use Rattle.world_model.specs.Texts.{deliver_text, fact_text, flush_text, limit_text, show_text}
+use Rattle.world_model.specs.Turns.{counted, deliver_turn, deliveries, delivery, delivery_to, event_turn, flush_turn, flushes, goes_on, most_entries, refuses, says, show_turn, shows, submit_turn, then_on, tick_at, ticks}
 use Rattle.world_model.specs.Worlds.{Entry, Node, entry, is_waiting, letter_from, making, marked, node_at, tick_of}
 use Rattle.world_safety.specs.Telling.{EveryTextIsTold, IsShownIn, IsStoredIn, IsTold, NoBlock, NoCore, NoEntry, NoWorld, Part, Refusal, Reply, SecondGenesis, UnknownNode, blocks_text, end_text, events_of, facts_of, histories_after, last_of, part_text, parts_text, reply_text, told_in}
 use Rattle.world_safety.specs.Telling as it
-use Rattle.world_safety.proofs.Lists.{all_last, all_parts}
-use Rattle.world_safety.specs.Within.{PastWorld, all_worlds_of, after_delivery, after_event, after_letter, after_submit, after_tick, in_deliver, in_deliveries, in_flush, in_flushes, in_ticks, where_node, worlds_in, worlds_in_line, worlds_in_lines, worlds_in_turn, worlds_said}
+use Rattle.world_safety.specs.Within.{PastWorld, after_delivery, after_event, after_letter, after_submit, after_tick, in_deliver, in_deliveries, in_flush, in_flushes, in_ticks}
 
 -- LISTS
 
@@ -141,7 +127,7 @@ module _ (number : ℕ) where
       go true = (refl, refl)
       go false = (refl, refl)
 
-  tick_ends : (w : PastWorld) (o : Option (Node PastNode)) → IsEvent w (after_tick w o) (tick_at past_setting number w o)
+  pub tick_ends : (w : PastWorld) (o : Option (Node PastNode)) → IsEvent w (after_tick w o) (tick_at past_setting number w o)
   tick_ends w None = record { facts = []; told = refl; ends = (refl, refl) }
   tick_ends w (Some node) = event_ends w node (tick_of past_setting.ways node)
 
@@ -150,7 +136,7 @@ module _ (number : ℕ) where
   letter_ends k e w None = record { facts = []; told = refl; ends = (refl, refl) }
   letter_ends k e w (Some node) = let is = event_ends (marked k e w) node (letter_from e) in record { facts = is.facts; told = is.told; ends = is.ends }
 
-  delivery_ends : (k : ℕ) (e : Entry) (w : PastWorld) → IsEvent w (after_delivery k e w) (delivery past_setting number k e w)
+  pub delivery_ends : (k : ℕ) (e : Entry) (w : PastWorld) → IsEvent w (after_delivery k e w) (delivery past_setting number k e w)
   delivery_ends k e w = letter_ends k e w (node_at e.to w.nodes)
 
   -- an event, and what follows it
