@@ -25,6 +25,8 @@ arrived e = record e { came = true }
 abbrev pub with_arrived : World → ℕ → Entry → worlds.World Core (Unit {0})
 with_arrived w at e =
     record {
+      config = w.config;
+      byzantine = w.byzantine;
       nodes = map node_of w.nodes.items;
       network = map entry_of (set w.outside.network.items at (arrived e));
       seals = w.outside.seat.seals;
@@ -34,12 +36,12 @@ with_arrived w at e =
 marked_is : (w : World) (at : ℕ) (e : Entry) → worlds.marked at (entry_of e) (world_of w) ≡ with_arrived w at e
 marked_is w at e = rw (map-set entry_of w.outside.network.items at (arrived e)) refl
 
--- no node is the receiver
+-- no node is the receiver, and the message is lost
 pub delivered_nowhere : (w : World) (number at : ℕ) (read : Entry) (e : worlds.Entry) (text : List ℕ) → at < length w.outside.network.items → read ≡ get_or w.outside.network.items at read
     → position (λ (node : Node). eqb node.id read.to) w.nodes.items ≡ None → slice_get (map entry_of w.outside.network.items) at ≡ Some e
-    → Turned (delivery core_setting number at e (world_of w)) text text (with_arrived w at read) None
+    → Turned (delivery core_setting number at e (world_of w)) text text (world_of w) None
 delivered_nowhere w number at read e text within is nowhere has =
-    let turn : delivery core_setting number at (entry_of read) (world_of w) ≡ record { printed = []; next = Ok (with_arrived w at read) } = rw (node_at_none read.to w.nodes.items nowhere, marked_is w at read) refl in
+    let turn : delivery core_setting number at (entry_of read) (world_of w) ≡ record { printed = []; next = Ok (world_of w) } = rw (node_at_none read.to w.nodes.items nowhere) refl in
     Turned-same _ _ text text _ None (sym turn ∙ ap (λ (x : worlds.Entry). delivery core_setting number at x (world_of w)) (entry_read w.outside.network.items at read e within is has)) (record { printed = sym (append-nil text); next = refl })
 
 -- the receiver takes the message

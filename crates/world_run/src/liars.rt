@@ -132,12 +132,7 @@ fn longest(nodes: &[Node]) -> Option<&Node>
 }
 
 /// A proposal of one request on top of a node's ledger.
-fn proposal_on(
-    alloc: Global,
-    node: &Node,
-    view: u64,
-    request: Request,
-) -> Result<Message, NoMemory>
+fn proposal_on(alloc: Global, node: &Node, view: u64, request: Request) -> Result<Message, NoMemory>
     requires { FitsRequest request }
     ensures proposal { IfOk result (λ message. message ≡ proposal_of node.now.place view request) }
     ensures fits { IfOk result FitsMessage }

@@ -11,9 +11,7 @@ ghost use Rattle.world_run.specs.Nodes.{node_of};
 
 use crate::node::Node;
 use crate::pool::submit;
-use crate::texts::{
-    put_answer, put_byzantine, put_node, put_refused, put_sent, put_show,
-};
+use crate::texts::{put_answer, put_byzantine, put_node, put_refused, put_sent, put_show};
 use crate::world::World;
 use ord_types::NoMemory;
 use script_play::Ending;

@@ -1,7 +1,7 @@
 use Rattle.std.proofs.Common.{ap, refl, List}
 use Rattle.safety_model.specs.Blocks.{Request}
 use Rattle.world_run.proofs.SubmitLemmas.{submitted_turn, with_pool}
-use Rattle.world_run.proofs.world.World.submit.Goals as goal
+use Rattle.world_run.proofs.showing.World.submit.Goals as goal
 
 pub returns-clause-turned : goal.returns-clause-turned
 returns-clause-turned c = λ node here.
