@@ -11,7 +11,6 @@ ghost use Rattle.world_model.specs.Liars.{
   is_raft_if_any,
   is_raft_message,
   lie_turn,
-  longer,
   longest,
   proposal_of,
   proposed_in,
@@ -105,29 +104,22 @@ fn is_raft(alloc: Global, bytes: &[u8]) -> Result<bool, NoMemory>
     }
 }
 
-/// The node of the longer ledger, the first of equally long ones.
-fn longer<'a>(node: &'a Node, other: Option<&'a Node>) -> &'a Node
-    ensures { node_of result.now ≡ longer (node_of node.now) (option_map node_of (option_copied other)) }
-{
-    match other {
-        Some(other) => {
-            if node.ledger.len() < other.ledger.len() {
-                other
-            } else {
-                node
-            }
-        }
-        None => node,
-    }
-}
-
 /// The node of the longest ledger, the first of equally long ones.
 fn longest(nodes: &[Node]) -> Option<&Node>
     ensures { option_map node_of (option_copied result) ≡ longest (map node_of nodes.now) }
 {
-    match nodes {
-        [node, rest @ ..] => Some(longer(node, longest(rest))),
-        [] => None,
+    let [node, rest @ ..] = nodes else {
+        return None;
+    };
+    match longest(rest) {
+        None => Some(node),
+        Some(other) => {
+            if node.ledger.len() < other.ledger.len() {
+                Some(other)
+            } else {
+                Some(node)
+            }
+        }
     }
 }
 

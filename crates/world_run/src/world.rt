@@ -1,5 +1,5 @@
 //! The world of a script: its nodes, the network, and what an event changes.
-ghost use Rattle.std.specs.Prelude.{◌≡◌, ◌==◌, ◌<◌, ◌≤◌, ◌+◌, ◌-◌, ◌^◌, ◌++◌, All, ℕ, List as Items, true, IfNone, IfOk, IfSome, OnOk, Some, None, length, position, slice_get, string_bytes, vec_len};
+ghost use Rattle.std.specs.Prelude.{◌≡◌, ◌==◌, ◌<◌, ◌≤◌, ◌+◌, ◌-◌, ◌^◌, ◌++◌, All, ℕ, List as Items, false, IfNone, IfOk, IfSome, OnOk, Some, None, length, map, position, slice_get, string_bytes, vec_len};
 ghost use Rattle.ord_types.specs.Genesis.{IsGenesisConfig};
 ghost use Rattle.script.specs.Commands.{IsRange};
 ghost use Rattle.script_play.specs.Turns.{EndsTurn, Turned};
