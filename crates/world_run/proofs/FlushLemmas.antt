@@ -1,5 +1,5 @@
 -- Lemmas on a flush.
-use Rattle.std.proofs.Common.{◌≡◌, ℕ, zero, suc, ◌+◌, ◌<◌, ◌≤◌, Bool, true, false, cond, ltb, ◌||◌, ◌&&◌, ◌⊎◌, inl, inr, List, [], ◌∷◌, ◌++◌, length, map, take, set, slice_get, position, Option, Some, None, Result, Ok, refl, sym, ap, ◌∙◌, arith}
+use Rattle.std.proofs.Common.{◌≡◌, ℕ, zero, suc, ◌+◌, ◌<◌, ◌≤◌, Bool, true, false, not, cond, ltb, ◌||◌, ◌&&◌, ◌⊎◌, inl, inr, List, [], ◌∷◌, ◌++◌, length, map, take, set, slice_get, position, Option, Some, None, Result, Ok, refl, sym, ap, ◌∙◌, arith}
 use Rattle.std.specs.List.{flat_map, list_any, position_or_len}
 use Rattle.std.specs.Prelude.{is_some}
 use Rattle.std.proofs.lemmas.Bool.Decides.{nat_tests}
@@ -90,7 +90,7 @@ delivered_by number k e w next None some is = absurd (cc)
 delivered_by number k e w next (Some node) some is = event_delivered number k e w next node is
 
 has_receiver : (nodes : List (worlds.Node Core)) (only : Option (List ℕ)) (e : worlds.Entry) → worlds.is_waiting nodes only e ≡ true → is_some (worlds.node_at e.to nodes) ≡ true
-has_receiver nodes only e waits = grind
+has_receiver nodes only e waits = (and_true (not e.came && worlds.is_named only e) (is_some (worlds.node_at e.to nodes)) waits).1
 
 -- a delivery leaves the entries before its own as they were
 pub none_waits_on : (number k : ℕ) (only : Option (List ℕ)) (e : worlds.Entry) (w next : Of) (before after : List ℕ) → k < length w.network

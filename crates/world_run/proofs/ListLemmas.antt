@@ -96,3 +96,8 @@ with_node_at_place id nodes place d new h e =
 
 pub length_longer : (old new : List Entry) (more : List worlds.Entry) → map entry_of new ≡ map entry_of old ++ more → length old ≤ length new
 length_longer old new more e = omega (arith, length-map old entry_of, length-map new entry_of, length-append (map entry_of old) more, ap length e)
+
+-- what is read twice is the same
+pub same_read : (network : List Entry) (at : ℕ) (one two : Entry) → at < length network → one ≡ get_or network at one → two ≡ get_or network at two → one ≡ two
+same_read network at one two within is also =
+    same_Some one two (sym (slice_get_read network (length network) at one refl within is) ∙ slice_get_read network (length network) at two refl within also)

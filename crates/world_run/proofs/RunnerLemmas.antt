@@ -20,22 +20,22 @@ use Rattle.world_run.proofs.GoingLemmas.{Turned-part}
 abbrev pub Of : Type 0
 Of = worlds.World Core (Unit {0})
 
-pub turn_opened : (number : ℕ) (members byzantine : List ℕ) (w : Of) (before after : List ℕ) → how_many_in byzantine members ≤ fault_bound (length members)
+pub turn_opened : (number count bound : ℕ) (members byzantine : List ℕ) (w : Of) (before after : List ℕ) → count ≡ how_many_in byzantine members → bound ≡ fault_bound (length members) → count ≤ bound
     → w ≡ first_world core_setting (first_config members) byzantine → after ≡ before ++ genesis_text number
     → Turned (turn_of core_setting None number (Genesis members byzantine)) before after (Some w) None
 unfolding turn_of
-turn_opened number members byzantine w before after few is printed =
-    let within : ltb (fault_bound (length members)) (how_many_in byzantine members) ≡ false = grind (arith, nat_tests) in
-    rw (is, within) (record { printed = printed; next = refl })
+turn_opened number count bound members byzantine w before after counted bounded few is printed =
+    let within : ltb bound count ≡ false = grind (arith, nat_tests) in
+    rw (is, ← counted, ← bounded, within) (record { printed = printed; next = refl })
 
 -- more are Byzantine than may be
-pub turn_overrun : (number : ℕ) (members byzantine : List ℕ) (w : Option Of) (before after : List ℕ) → fault_bound (length members) < how_many_in byzantine members
-    → after ≡ before ++ too_many_faulty_text number 0 (how_many_in byzantine members) (fault_bound (length members))
-    → Turned (turn_of core_setting None number (Genesis members byzantine)) before after w (Some (TooManyFaulty number 0 (how_many_in byzantine members) (fault_bound (length members))))
+pub turn_overrun : (number count bound : ℕ) (members byzantine : List ℕ) (w : Option Of) (before after : List ℕ) → count ≡ how_many_in byzantine members → bound ≡ fault_bound (length members) → bound < count
+    → after ≡ before ++ too_many_faulty_text number 0 count bound
+    → Turned (turn_of core_setting None number (Genesis members byzantine)) before after w (Some (TooManyFaulty number 0 count bound))
 unfolding turn_of
-turn_overrun number members byzantine w before after many printed =
-    let over : ltb (fault_bound (length members)) (how_many_in byzantine members) ≡ true = grind (arith, nat_tests) in
-    rw over (record { printed = printed; next = refl })
+turn_overrun number count bound members byzantine w before after counted bounded many printed =
+    let over : ltb bound count ≡ true = grind (arith, nat_tests) in
+    rw (← counted, ← bounded, over) (record { printed = printed; next = refl })
 
 pub turn_refused : (number : ℕ) (command : Command) (before after : List ℕ) → ((members byzantine : List ℕ) → command ≡ Genesis members byzantine → ⊥) → after ≡ before ++ refused_text number (codes "no world")
     → Turned (turn_of core_setting None number command) before after None None

@@ -9,7 +9,7 @@ use Rattle.node_model.specs.Acts.{View}
 use Rattle.node_model.specs.Leading.{Place}
 use Rattle.node_model.specs.Steps.{Event, Making}
 use Rattle.ord_types.specs.declared.values.Proof.{Proof}
-use Rattle.safety_model.specs.Blocks.{Block, Request}
+use Rattle.safety_model.specs.Blocks.{Block, Config, Request}
 use Rattle.ord_types.specs.declared.lists.NoMemory.{NoMemory}
 use Rattle.script_play.specs.declared.ending.Ending.{Ending}
 use Rattle.script_play.specs.Turns.{Turned}
@@ -115,16 +115,30 @@ world_stepped w id place old new outside m at is makes =
       told = tt;
     }) node)
 
+same_three : {A B C X : Type 0} (f : A → B → C → X) (a a' : A) (b b' : B) (c c' : C) → a ≡ a' → b ≡ b' → c ≡ c' → f a b c ≡ f a' b' c'
+same_three f a a' b b' c c' p q r = rw (p, q, r) refl
+
 event_limited : (w s : World) (id place : ℕ) (old new : Node) (outside : Outside) (event : Event)
     → HasPlace id w.nodes.items place → IsSeated w s place old
     → Makes (before_in w old) (worlds.making core_setting (world_of w) (node_of old) event) act_of.Kept new outside
     → within_limit {S = Core} {T = Unit {0}} outside.number (flat_map (fact_text w.outside.number) (worlds.making core_setting (world_of w) (node_of old) event).facts) (world_with s (set s.nodes.items place new) outside)
     ≡ within_limit w.outside.number (flat_map (fact_text w.outside.number) (worlds.making core_setting (world_of w) (node_of old) event).facts)
     (worlds.world_after core_setting (world_of w) (node_of old) (worlds.making core_setting (world_of w) (node_of old) event))
-event_limited w s id place old new outside event at seated makes =
+event_limited w s id place old new outside event at sits makes =
     let m = worlds.making core_setting (world_of w) (node_of old) event in
     let facts = flat_map (fact_text w.outside.number) m.facts in
-    rw (world_stepped w id place old new outside m at seated.read makes, makes.number, seated.config, seated.byzantine, seated.nodes) refl
+    let with = λ (config : Config) (byzantine : List ℕ) (nodes : List Node). within_limit {S = Core} {T = Unit {0}} outside.number facts
+    (record {
+      config = config;
+      byzantine = byzantine;
+      nodes = map node_of (set nodes place new);
+      network = map entry_of outside.network.items;
+      seals = outside.seat.seals;
+      told = tt;
+    }) in
+    same_three with s.config w.config s.byzantine w.byzantine s.nodes.items w.nodes.items sits.config sits.byzantine sits.nodes
+    ∙ ap (λ (n : ℕ). within_limit {S = Core} {T = Unit {0}} n facts (world_with w (set w.nodes.items place new) outside)) makes.number
+    ∙ ap (λ (x : worlds.World Core (Unit {0})). within_limit {S = Core} {T = Unit {0}} w.outside.number facts x) (sym (world_stepped w id place old new outside m at sits.read makes))
 
 -- the turn of an event, from what its step made
 pub event_turned : (w s : World) (id place : ℕ) (old new : Node) (outside : Outside) (event : Event) (result : Result (Option Ending) NoMemory) (after : List ℕ) (next : worlds.World Core (Unit {0}))
@@ -134,21 +148,21 @@ pub event_turned : (w s : World) (id place : ℕ) (old new : Node) (outside : Ou
     → Turned (within_limit outside.number blocks (world_with s (set s.nodes.items place new) outside)) before after next ending)
     → IfOk result (λ ending. Turned (event_turn core_setting w.outside.number (world_of w) (node_of old) event) (string_bytes w.outside.text) after next ending)
 unfolding event_turn
-event_turned w s id place old new outside event result after next at seated makes limited =
+event_turned w s id place old new outside event result after next at sits makes limited =
     let m = worlds.making core_setting (world_of w) (node_of old) event in
     let facts = flat_map (fact_text w.outside.number) m.facts in
     IfOk-weaker result
     (λ (ending : Option Ending). (before blocks : List ℕ) → string_bytes outside.text ≡ before ++ blocks → Turned (within_limit outside.number blocks (world_with s (set s.nodes.items place new) outside)) before after next ending)
     (λ (ending : Option Ending). Turned (within_limit w.outside.number facts (worlds.world_after core_setting (world_of w) (node_of old) m)) (string_bytes w.outside.text) after next ending)
-    (λ ending turned. Turned-same _ _ _ _ _ _ (event_limited w s id place old new outside event at seated makes) (turned _ _ makes.text))
+    (λ ending turned. Turned-same _ _ _ _ _ _ (event_limited w s id place old new outside event at sits makes) (turned _ _ makes.text))
     limited
 
 -- the entries before the first that may wait don't wait
 pub passed_on : (w s : World) (id place : ℕ) (old new : Node) (outside : Outside) (m : Making Core) → HasPlace id w.nodes.items place → IsSeated w s place old → Makes (before_in w old) m act_of.Kept new outside
     → waits_before w.first_waiting (set s.nodes.items place new) outside.network.items ≡ false
-passed_on w s id place old new outside m at seated makes =
-    let same : old.id ≡ id = ap (λ (n : Node). n.id) seated.read ∙ id_at_place id w.nodes.items place old at in
-    rw seated.nodes
+passed_on w s id place old new outside m at sits makes =
+    let same : old.id ≡ id = ap (λ (n : Node). n.id) sits.read ∙ id_at_place id w.nodes.items place old at in
+    rw sits.nodes
     (waits_longer w.first_waiting w.nodes.items (set w.nodes.items place new) w.outside.network.items outside.network.items _ w.within makes.network
     (ids_placed id w.nodes.items place old new at (makes.id ∙ same)) w.passed)
 

@@ -13,7 +13,7 @@ use Rattle.world_run.specs.Nodes.{node_of}
 use Rattle.world_run.specs.Waiting.{waits_before}
 use Rattle.world_run.specs.declared.network.Entry.{Entry}
 use Rattle.world_run.specs.declared.node.Node.{Node}
-use Rattle.world_run.proofs.ListLemmas.{HasPlace, with_node_at_place}
+use Rattle.world_run.proofs.ListLemmas.{HasPlace, id_at_place, with_node_at_place}
 
 -- NODES by their ids
 
@@ -87,12 +87,24 @@ waits_longer n old new network longer more within is same none =
     ∙ any_by_ids (map node_of new) (map node_of old) None (take n (map entry_of network)) same
     ∙ none
 
+none_either : (came named found : Bool) → (not came && true && found) ≡ false → (not came && named && found) ≡ false
+none_either true named found none = refl
+none_either false true found none = none
+none_either false false found none = refl
+
 -- whoever waits among some ids waits
 named_waits : (nodes : List (worlds.Node Core)) (only : Option (List ℕ)) (e : worlds.Entry) → worlds.is_waiting nodes None e ≡ false → worlds.is_waiting nodes only e ≡ false
-named_waits nodes only e none = grind
+named_waits nodes only e none = none_either e.came (worlds.is_named only e) (is_some (worlds.node_at e.to nodes)) none
 
 pub none_of_named : (nodes : List (worlds.Node Core)) (only : Option (List ℕ)) (es : List worlds.Entry) → list_any (worlds.is_waiting nodes None) es ≡ false → list_any (worlds.is_waiting nodes only) es ≡ false
 none_of_named nodes only [] none = refl
 none_of_named nodes only (e ∷ es) none =
     let parts = or_false (worlds.is_waiting nodes None e) (list_any (worlds.is_waiting nodes None) es) none in
     rw (named_waits nodes only e parts.0, none_of_named nodes only es parts.1) refl
+
+-- a node has another pool
+pub waits_pooled : (n id place : ℕ) (nodes : List Node) (network : List Entry) (old new : Node) → HasPlace id nodes place → old ≡ get_or nodes place old → new.id ≡ old.id
+    → waits_before n nodes network ≡ false → waits_before n (set nodes place new) network ≡ false
+waits_pooled n id place nodes network old new at is same none =
+    let known : old.id ≡ id = ap (λ (node : Node). node.id) is ∙ id_at_place id nodes place old at in
+    any_by_ids (map node_of (set nodes place new)) (map node_of nodes) None (take n (map entry_of network)) (ids_placed id nodes place old new at (same ∙ known)) ∙ none

@@ -61,11 +61,14 @@ fn subject_of(message: &Message) -> Option<Subject>
     ensures { result ≡ subject_of message.now }
 {
     match message {
-        Message::PrePrepare(proposal) => Some(Subject {
-            config: proposal.config,
-            number: proposal.number,
-            digest: block_hash(&proposal.block.header),
-        }),
+        Message::PrePrepare(proposal) => {
+            let digest = block_hash(&proposal.block.header);
+            Some(Subject {
+                config: proposal.config,
+                number: proposal.number,
+                digest,
+            })
+        }
         _ => None,
     }
 }
@@ -121,6 +124,16 @@ fn longest(nodes: &[Node]) -> Option<&Node>
             }
         }
     }
+}
+
+/// A message as bytes.
+fn encoded(alloc: Global, message: Message) -> Result<Bytes, NoMemory>
+    requires { FitsMessage message }
+    ensures { IfOk result (λ bytes. bytes ≡ message_text message) }
+{
+    let mut bytes = Bytes::new(alloc);
+    encode(&message, &mut bytes)?;
+    Ok(bytes)
 }
 
 /// A proposal of one request on top of a node's ledger.
@@ -204,33 +217,17 @@ impl World {
         Ok(None)
     }
 
-    /// Sends a message, by a line that begins with this word.
-    fn send_message(
-        &mut self,
-        word: &str,
-        from: u32,
-        to: u32,
-        message: &Message,
-    ) -> Result<Option<Ending>, NoMemory>
-        requires { FitsMessage message.now }
-        ensures ends { IfOk result (λ ending. IfSome ending EndsTurn) }
-        ensures turned { IfOk result (λ ending. Turned (sends self.old.outside.number word.now (world_of self.old) from to (message_text message.now)) (string_bytes self.old.outside.text) (string_bytes self.new.outside.text) (world_of self.new) ending) }
-    {
-        let mut bytes = Bytes::new(self.outside.alloc);
-        encode(message, &mut bytes)?;
-        self.send(word, from, to, bytes)
-    }
-
-    /// A proposal of one request on top of the longest ledger. There is a node in every world.
-    fn proposal(&self, view: u64, request: Request) -> Result<Option<Message>, NoMemory>
+    /// The bytes of a proposal of one request on top of the longest ledger. There is a node in every world.
+    fn proposal(&self, view: u64, request: Request) -> Result<Option<Bytes>, NoMemory>
         requires { FitsRequest request }
-        ensures proposal { IfOk result (λ message. message ≡ option_map (λ node. proposal_of node.state.place view request) (longest (world_of self.now).nodes)) }
-        ensures fits { IfOk result (λ message. IfSome message FitsMessage) }
+        ensures { IfOk result (λ bytes. bytes ≡ option_map (λ node. message_text (proposal_of node.state.place view request)) (longest (world_of self.now).nodes)) }
     {
-        match longest(self.nodes.as_slice()) {
-            None => Ok(None),
-            Some(node) => Ok(Some(proposal_on(self.outside.alloc, node, view, request)?)),
-        }
+        let Some(node) = longest(self.nodes.as_slice()) else {
+            return Ok(None);
+        };
+        let alloc = self.outside.alloc;
+        let message = proposal_on(alloc, node, view, request)?;
+        Ok(Some(encoded(alloc, message)?))
     }
 
     /// Proposes a request on top of the longest ledger.
@@ -247,7 +244,7 @@ impl World {
     {
         match self.proposal(view, request)? {
             None => self.refuse("no core"),
-            Some(message) => self.send_message("byz-propose", from, to, &message),
+            Some(bytes) => self.send("byz-propose", from, to, bytes),
         }
     }
 
@@ -274,13 +271,15 @@ impl World {
         ensures ends { IfOk result (λ ending. IfSome ending EndsTurn) }
         ensures turned { IfOk result (λ ending. Turned (sends self.old.outside.number (codes "byz-vote") (world_of self.old) from to (message_text (prepare_of subject view))) (string_bytes self.old.outside.text) (string_bytes self.new.outside.text) (world_of self.new) ending) }
     {
+        let digest = subject.digest;
         let prepare = Prepare {
             config: subject.config,
             view,
             number: subject.number,
-            digest: subject.digest,
+            digest,
         };
-        self.send_message("byz-vote", from, to, &Message::Prepare(prepare))
+        let bytes = encoded(self.outside.alloc, Message::Prepare(prepare))?;
+        self.send("byz-vote", from, to, bytes)
     }
 
     /// Signs and sends a Commit.
@@ -294,16 +293,18 @@ impl World {
         ensures ends { IfOk result (λ ending. IfSome ending EndsTurn) }
         ensures turned { IfOk result (λ ending. Turned (sends self.old.outside.number (codes "byz-vote") (with_signed (world_of self.old) from (statement_of subject view)) from to (message_text (commit_of subject view (sig_at from (length (world_of self.old).seals))))) (string_bytes self.old.outside.text) (string_bytes self.new.outside.text) (world_of self.new) ending) }
     {
-        let statement = commit_statement(subject.config, view, subject.number, &subject.digest);
+        let digest = subject.digest;
+        let statement = commit_statement(subject.config, view, subject.number, &digest);
         let sig = self.sign(from, &statement)?;
         let commit = Commit {
             config: subject.config,
             view,
             number: subject.number,
-            digest: subject.digest,
+            digest,
             sig,
         };
-        self.send_message("byz-vote", from, to, &Message::Commit(commit))
+        let bytes = encoded(self.outside.alloc, Message::Commit(commit))?;
+        self.send("byz-vote", from, to, bytes)
     }
 
     /// Sends a vote for the block that is proposed in the entry at this place.

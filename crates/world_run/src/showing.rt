@@ -107,6 +107,7 @@ impl World {
     }
 
     /// The closing lines, by the members' order.
+    #[tactic(auto, unfolding(world_model::specs::Turns::closing_of))]
     pub(crate) fn closing(&self, text: &mut String) -> Result<(), NoMemory>
         ensures { OnOk result (string_bytes text.new ≡ string_bytes text.old ++ closing_of core_setting (Some (world_of self.now))) }
     {

@@ -1,5 +1,5 @@
 //! The world of a script: its nodes, the network, and what an event changes.
-ghost use Rattle.std.specs.Prelude.{◌≡◌, ◌==◌, ◌<◌, ◌≤◌, ◌+◌, ◌-◌, ◌^◌, ◌++◌, All, ℕ, List as Items, false, IfNone, IfOk, IfSome, OnOk, Some, None, length, map, position, slice_get, string_bytes, vec_len};
+ghost use Rattle.std.specs.Prelude.{◌≡◌, ◌==◌, ◌<◌, ◌≤◌, ◌+◌, ◌-◌, ◌^◌, ◌++◌, All, ℕ, List as Items, false, IfNone, IfOk, IfSome, OnOk, Some, None, is_some, length, map, position, slice_get, string_bytes, vec_len};
 ghost use Rattle.ord_types.specs.Genesis.{IsGenesisConfig};
 ghost use Rattle.script.specs.Commands.{IsRange};
 ghost use Rattle.script_play.specs.Turns.{EndsTurn, Turned};
@@ -125,6 +125,16 @@ impl World {
         self.nodes.iter().position(|node| node.id == id)
     }
 
+    /// Whether an id has a node.
+    fn has_node(&self, id: u32) -> bool
+        ensures { result ≡ is_some (worlds.node_at id (world_of self.now).nodes) }
+    {
+        match self.find(id) {
+            None => false,
+            Some(_) => true,
+        }
+    }
+
     /// Gives the box of seals to a signer.
     pub(crate) fn give_seat(&mut self, id: u32) -> Result<(), NoMemory>
         ensures { OnOk result (self.new ≡ record self.old { outside = record self.old.outside { seat = record { id = id; seals = self.old.outside.seat.seals } } }) }
@@ -234,10 +244,11 @@ impl World {
         requires { at < vec_len self.now.outside.network }
         ensures { IfOk result (λ count. (entry : worlds.Entry) → slice_get (world_of self.now).network at ≡ Some entry → count ≡ counted entry (world_of self.now).nodes so_far) }
     {
-        match self.find(self.outside.network[at].to) {
-            None => Ok(so_far),
-            Some(_) => so_far.checked_add(1).ok_or(NoMemory),
+        if !self.has_node(self.outside.network[at].to) {
+            return Ok(so_far);
         }
+        let count = so_far.checked_add(1).ok_or(NoMemory)?;
+        Ok(count)
     }
 
     /// The place of the entry with this number.
@@ -295,13 +306,19 @@ impl World {
         Ok(None)
     }
 
+    /// Whether an entry waits for its receiver.
+    fn waits(&self, only: &Option<List<u32>>, entry: &Entry) -> bool
+        ensures { result ≡ worlds.is_waiting (world_of self.now).nodes only.now (entry_of entry.now) }
+    {
+        !entry.came && is_named(only, entry) && self.has_node(entry.to)
+    }
+
     /// Whether the entry at this place waits for its receiver.
     fn is_waiting(&self, only: &Option<List<u32>>, at: usize) -> bool
         requires { at < vec_len self.now.outside.network }
         ensures { (entry : worlds.Entry) → slice_get (world_of self.now).network at ≡ Some entry → result ≡ worlds.is_waiting (world_of self.now).nodes only.now entry }
     {
-        let entry = &self.outside.network[at];
-        !entry.came && is_named(only, entry) && self.find(entry.to).is_some()
+        self.waits(only, &self.outside.network[at])
     }
 
     /// Passes over the entries that have come, and those whose receivers have no nodes.

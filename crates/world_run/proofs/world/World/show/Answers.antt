@@ -1,6 +1,6 @@
 use Rattle.std.proofs.Common.{sym}
 use Rattle.world_run.proofs.ShowLemmas.{shown_none, shown_some}
-use Rattle.world_run.proofs.showing.World.show.Goals as goal
+use Rattle.world_run.proofs.world.World.show.Goals as goal
 
 pub returns-in_ok-put_refused-in-None-clause-turned : goal.returns-in_ok-put_refused-in-None-clause-turned
 returns-in_ok-put_refused-in-None-clause-turned c = λ node here.

@@ -4,7 +4,7 @@ use Rattle.world_model.specs.Cores.{core_setting}
 use Rattle.world_model.specs.Turns.{closing_of_member}
 use Rattle.world_model.specs.Worlds.{node_at}
 use Rattle.world_run.specs.Mapped.{world_of}
-use Rattle.world_run.proofs.showing.World.closing.Given as goal
+use Rattle.world_run.proofs.world.World.closing.Given as goal
 
 abbrev pub invariant-loop-id : goal.invariant-loop-id
 invariant-loop-id l =
