@@ -2,6 +2,8 @@
 #![tactic(auto)]
 
 mod adapters;
+#[cfg(test)]
+mod byzantine_tests;
 mod commands;
 mod offline;
 #[cfg(test)]

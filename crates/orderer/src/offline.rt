@@ -53,7 +53,7 @@ pub fn run_offline<S: Source, K: Sink>(
     ensures source_stays { asked (map string_bytes words.now) ≢ asked_for.World → source.new ≡ source.old }
     ensures out_stays { asked (map string_bytes words.now) ≢ asked_for.World → out.new ≡ out.old }
 
-    // Statuses 0, 3, 9 and 17 come exactly as the script ends, with its whole text written.
+    // Statuses 0, 3, 5, 9 and 17 come exactly as the script ends, with its whole text written.
     ensures status { asked (map string_bytes words.now) ≡ asked_for.World → IsOwn result → IsSome (S.left source.old) →
         result ≡ status_of (run_of [] (told (S.left source.old))).ending }
     ensures whole { asked (map string_bytes words.now) ≡ asked_for.World → IsOwn result → IsSome (S.left source.old) → IsSome (K.content out.old) →

@@ -93,6 +93,13 @@ impl Model for SealSeat {
 }
 
 impl SealSeat {
+    /// How many seals the box has.
+    pub fn sealed(&self) -> usize
+        ensures { result ≡ length self.now.seals }
+    {
+        self.seals.seals.len()
+    }
+
     /// The box.
     pub fn back(self) -> SealBox
         ensures { result ≡ self.seals }

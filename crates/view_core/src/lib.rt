@@ -14,3 +14,4 @@ mod tests;
 
 pub use held::ViewState;
 pub use node_model::Act;
+pub use proposals::proposal;

@@ -12,3 +12,5 @@ pub mod SubmitLemmas
 pub mod TickLemmas
 pub mod ViewLemmas
 pub mod ShowLemmas
+pub mod WaitingLemmas
+pub mod LiarLemmas

@@ -1,4 +1,4 @@
--- Lemmas on finding and replacing one of a list, and on entries that have come.
+-- Lemmas on finding and replacing one of a list.
 use Rattle.std.proofs.Common.{◌≡◌, ℕ, suc, ◌+◌, ◌<◌, ◌≤◌, Bool, true, false, not, cond, eqb, ltb, List, [], ◌∷◌, ◌++◌, length, map, take, get_or, set, position, slice_get, Option, Some, None, inl, inr, refl, sym, ap, ◌∙◌, arith}
 use Rattle.std.specs.Option.{option_map}
 use Rattle.std.proofs.lemmas.Bool.{eqb-true}
@@ -11,7 +11,6 @@ use Rattle.std.proofs.lemmas.List.Quantifiers.{position-Some}
 use Rattle.std.proofs.lemmas.Option.{cond_some, same_Some, slice_get-get_or, slice_get-map, slice_get_cases, slice_get_past, slice_get_read}
 use Rattle.world_model.specs.Worlds as worlds
 use Rattle.world_run.specs.Entries.{entry_of}
-use Rattle.world_run.specs.Going.{have_come}
 use Rattle.world_run.specs.Nodes.{node_of}
 use Rattle.world_run.specs.declared.network.Entry.{Entry}
 use Rattle.world_run.specs.declared.node.Node.{Node}
@@ -95,18 +94,10 @@ pub with_node_at_place : (id : ℕ) (nodes : List Node) (place : ℕ) (d new : N
 with_node_at_place id nodes place d new h e =
     with_node_from new nodes place (rw e (sym (cond_some _ _ _ h).1)) (place_within id nodes place d h)
 
--- ENTRIES that have come
-
-pub have_come_of : (n : ℕ) (network : List Entry) → have_come n network ≡ list_all (λ (e : worlds.Entry). e.came) (take n (map entry_of network))
-have_come_of n network = sym (ap (list_all (λ (e : worlds.Entry). e.came)) (take-map entry_of n network) ∙ list_all-map (λ (e : worlds.Entry). e.came) entry_of (take n network))
-
--- more entries behind them change nothing
-pub have_come_longer : (n : ℕ) (old new : List Entry) (more : List worlds.Entry) → n ≤ length old → map entry_of new ≡ map entry_of old ++ more → have_come n old ≡ true → have_come n new ≡ true
-have_come_longer n old new more l e h =
-    have_come_of n new
-    ∙ ap (λ (es : List worlds.Entry). list_all (λ (e : worlds.Entry). e.came) (take n es)) e
-    ∙ ap (list_all (λ (e : worlds.Entry). e.came)) (take-append-le n (map entry_of old) more (omega (arith, length-map old entry_of)))
-    ∙ sym (have_come_of n old) ∙ h
-
 pub length_longer : (old new : List Entry) (more : List worlds.Entry) → map entry_of new ≡ map entry_of old ++ more → length old ≤ length new
 length_longer old new more e = omega (arith, length-map old entry_of, length-map new entry_of, length-append (map entry_of old) more, ap length e)
+
+-- what is read twice is the same
+pub same_read : (network : List Entry) (at : ℕ) (one two : Entry) → at < length network → one ≡ get_or network at one → two ≡ get_or network at two → one ≡ two
+same_read network at one two within is also =
+    same_Some one two (sym (slice_get_read network (length network) at one refl within is) ∙ slice_get_read network (length network) at two refl within also)

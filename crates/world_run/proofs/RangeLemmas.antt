@@ -8,7 +8,7 @@ use Rattle.script_play.specs.declared.ending.Ending.{Ending}
 use Rattle.script_play.specs.Turns.{Turn, Turned}
 use Rattle.world_model.specs.Cores.{core_setting}
 use Rattle.world_model.specs.Texts.{deliver_text, refused_text}
-use Rattle.world_model.specs.Turns.{deliver_turn, deliveries, delivery, goes_on, refuses}
+use Rattle.world_model.specs.Turns.{counted, deliver_turn, deliveries, delivery, goes_on, refuses}
 use Rattle.world_model.specs.Worlds as worlds
 use Rattle.world_run.specs.Going.{Delivers, Goes}
 use Rattle.world_run.specs.declared.world.Delivered.TheVariants as delivered
@@ -18,20 +18,20 @@ abbrev pub Of : Type 0
 Of = worlds.World Core (Unit {0})
 
 deliveries_step : (number m at count : ℕ) (w : Of) (e : worlds.Entry) (rest : ℕ → Of → Turn Of) → slice_get w.network at ≡ Some e
-    → deliveries core_setting number (suc m) (suc at) count w rest ≡ goes_on (delivery core_setting number at e w) (λ next. deliveries core_setting number m (suc at + 1) (count + 1) next rest)
+    → deliveries core_setting number (suc m) (suc at) count w rest ≡ goes_on (delivery core_setting number at e w) (λ next. deliveries core_setting number m (suc at + 1) (counted e w.nodes count) next rest)
 unfolding deliveries
 deliveries_step number m at count w e rest has =
     let here : suc at - 1 ≡ at = omega arith in
-    ap (λ (o : Option worlds.Entry). elim o [ None ↦ refuses number (codes "no entry") w | Some x ↦ goes_on (delivery core_setting number (suc at - 1) x w) (λ next. deliveries core_setting number m (suc at + 1) (count + 1) next rest) ]) has
-    ∙ ap (λ (i : ℕ). goes_on (delivery core_setting number i e w) (λ next. deliveries core_setting number m (suc at + 1) (count + 1) next rest)) here
+    ap (λ (o : Option worlds.Entry). elim o [ None ↦ refuses number (codes "no entry") w | Some x ↦ goes_on (delivery core_setting number (suc at - 1) x w) (λ next. deliveries core_setting number m (suc at + 1) (counted x w.nodes count) next rest) ]) has
+    ∙ ap (λ (i : ℕ). goes_on (delivery core_setting number i e w) (λ next. deliveries core_setting number m (suc at + 1) (counted e w.nodes count) next rest)) here
 
 pub deliveries_more : (number n m k at count : ℕ) (w next : Of) (e : worlds.Entry) (before after : List ℕ) (rest : ℕ → Of → Turn Of)
     → n ≡ suc m → k ≡ at + 1 → slice_get w.network at ≡ Some e → Turned (delivery core_setting number at e w) before after next None
-    → Goes (deliveries core_setting number n k count w rest) before after (deliveries core_setting number m (k + 1) (count + 1) next rest)
+    → Goes (deliveries core_setting number n k count w rest) before after (deliveries core_setting number m (k + 1) (counted e w.nodes count) next rest)
 deliveries_more number n m k at count w next e before after rest en ek has turned =
     let place : k ≡ suc at = omega arith in
     rw (en, place) (Goes-same _ _ before after _ (sym (deliveries_step number m at count w e rest has))
-    (Goes-part (delivery core_setting number at e w) (λ (v : Of). deliveries core_setting number m (suc at + 1) (count + 1) v rest) before after next turned))
+    (Goes-part (delivery core_setting number at e w) (λ (v : Of). deliveries core_setting number m (suc at + 1) (counted e w.nodes count) v rest) before after next turned))
 
 pub deliveries_ended : (number n m k at count : ℕ) (w next : Of) (e : worlds.Entry) (before after : List ℕ) (ending : Ending) (rest : ℕ → Of → Turn Of)
     → n ≡ suc m → k ≡ at + 1 → slice_get w.network at ≡ Some e → Turned (delivery core_setting number at e w) before after next (Some ending)
@@ -39,13 +39,13 @@ pub deliveries_ended : (number n m k at count : ℕ) (w next : Of) (e : worlds.E
 deliveries_ended number n m k at count w next e before after ending rest en ek has turned =
     let place : k ≡ suc at = omega arith in
     rw (en, place) (Turned-same _ _ before after next (Some ending) (sym (deliveries_step number m at count w e rest has))
-    (Turned-part (delivery core_setting number at e w) (λ (v : Of). deliveries core_setting number m (suc at + 1) (count + 1) v rest) before after next next ending turned))
+    (Turned-part (delivery core_setting number at e w) (λ (v : Of). deliveries core_setting number m (suc at + 1) (counted e w.nodes count) v rest) before after next next ending turned))
 
 deliveries_none : (number m k count : ℕ) (w : Of) (rest : ℕ → Of → Turn Of) → worlds.entry k w ≡ None
     → deliveries core_setting number (suc m) k count w rest ≡ refuses number (codes "no entry") w
 unfolding deliveries
 deliveries_none number m k count w rest none =
-    ap (λ (o : Option worlds.Entry). elim o [ None ↦ refuses number (codes "no entry") w | Some x ↦ goes_on (delivery core_setting number (k - 1) x w) (λ next. deliveries core_setting number m (k + 1) (count + 1) next rest) ]) none
+    ap (λ (o : Option worlds.Entry). elim o [ None ↦ refuses number (codes "no entry") w | Some x ↦ goes_on (delivery core_setting number (k - 1) x w) (λ next. deliveries core_setting number m (k + 1) (counted x w.nodes count) next rest) ]) none
 
 pub deliveries_refused : (number n m k count : ℕ) (w : Of) (before after : List ℕ) (rest : ℕ → Of → Turn Of)
     → n ≡ suc m → worlds.entry k w ≡ None → after ≡ before ++ refused_text number (codes "no entry")

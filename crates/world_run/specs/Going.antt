@@ -1,8 +1,6 @@
 -- How far the text of a turn has come.
-use Rattle.std.specs.Prelude.{◌≡◌, ℕ, List, ◌++◌, Bool, None, Some, take}
-use Rattle.std.specs.List.{list_all}
-use Rattle.script_play.specs.Turns.{IsLimit, Turn, Turned}
-use Rattle.world_run.specs.declared.network.Entry.{Entry}
+use Rattle.std.specs.Prelude.{◌≡◌, ℕ, List, ◌++◌, None, Some}
+use Rattle.script_play.specs.Turns.{EndsTurn, Turn, Turned}
 use Rattle.world_run.specs.declared.world.Delivered.{Delivered}
 use Rattle.world_run.specs.declared.world.Delivered.TheVariants.{All, Refused, Ended}
 
@@ -17,12 +15,8 @@ Delivers {W} whole before after next (All count) = (rest : ℕ → W → Turn W)
 Delivers {W} whole before after next Refused = (rest : ℕ → W → Turn W) → Turned (whole rest) before after next None
 Delivers {W} whole before after next (Ended ending) = (rest : ℕ → W → Turn W) → Turned (whole rest) before after next (Some ending)
 
--- a limit alone ends the deliveries
-abbrev pub IsLimited : Delivered → Type 0
-IsLimited (All count) = Unit {0}
-IsLimited Refused = Unit {0}
-IsLimited (Ended ending) = IsLimit ending
-
--- the first entries have come
-abbrev pub have_come : ℕ → List Entry → Bool
-have_come count network = list_all (λ e. e.came) (take count network)
+-- what ends the deliveries ends the turn
+abbrev pub EndsDelivery : Delivered → Type 0
+EndsDelivery (All count) = Unit {0}
+EndsDelivery Refused = Unit {0}
+EndsDelivery (Ended ending) = EndsTurn ending

@@ -5,3 +5,5 @@ pub mod Making
 pub mod Mapped
 pub mod Nodes
 pub mod Standing
+pub mod Waiting
+pub mod Lying

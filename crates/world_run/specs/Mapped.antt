@@ -9,6 +9,8 @@ use Rattle.world_run.specs.declared.world.World.{World}
 abbrev pub world_of : World → worlds.World Core (Unit {0})
 world_of w =
     record {
+      config = w.config;
+      byzantine = w.byzantine;
       nodes = map node_of w.nodes.items;
       network = map entry_of w.outside.network.items;
       seals = w.outside.seat.seals;

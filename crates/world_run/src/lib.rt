@@ -1,10 +1,12 @@
 //! Plays the lines of a script on a simulated network.
 #![tactic(auto)]
 
+mod liars;
 mod network;
 mod node;
 mod pool;
 mod runner;
+mod showing;
 mod texts;
 mod world;
 

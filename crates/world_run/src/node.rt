@@ -94,7 +94,7 @@ fn first_place(config: &Config, genesis: &Block) -> Result<Place, NoMemory>
 }
 
 /// The certificate that a proposal carries.
-fn carried_cert(place: &Place) -> Result<Option<Cert>, NoMemory>
+pub(crate) fn carried_cert(place: &Place) -> Result<Option<Cert>, NoMemory>
     requires { IsPlace place.now }
     ensures cert { IfOk result (λ cert. cert ≡ carried_cert place.now) }
     ensures fits { IfOk result (λ cert. IfSome cert FitsCert) }
@@ -109,7 +109,7 @@ fn carried_cert(place: &Place) -> Result<Option<Cert>, NoMemory>
 }
 
 /// Signs a statement. A box of seals never fails but for want of memory.
-fn signed(seat: &mut SealSeat, statement: &[u8]) -> Result<Sig, NoMemory>
+pub(crate) fn signed(seat: &mut SealSeat, statement: &[u8]) -> Result<Sig, NoMemory>
     ensures sig { IfOk result (λ sig. sig ≡ next_sig seat.old) }
     ensures fits { IfOk result FitsSig }
     ensures seat { OnOk result (seat.new ≡ with_seal seat.old statement.now) }
@@ -122,7 +122,7 @@ fn signed(seat: &mut SealSeat, statement: &[u8]) -> Result<Sig, NoMemory>
 }
 
 /// The message that bytes spell, if they spell one.
-fn spelled(alloc: Global, bytes: &[u8]) -> Result<Option<Message>, NoMemory>
+pub(crate) fn spelled(alloc: Global, bytes: &[u8]) -> Result<Option<Message>, NoMemory>
     ensures message { IfOk result (λ message. message ≡ message_in bytes.now) }
     ensures fits { IfOk result (λ message. IfSome message FitsMessage) }
 {

@@ -1,21 +1,22 @@
 //! Runs the commands of a script on a world.
-ghost use Rattle.std.specs.Prelude.{◌≡◌, IfOk, IfSome, None, OnOk, Option, codes, string_bytes};
+ghost use Rattle.std.specs.Prelude.{◌≡◌, ◌≤◌, IfOk, IfSome, None, Option, length, string_bytes};
 ghost use Rattle.std.specs.Option.{option_map};
+ghost use Rattle.ord_types.specs.Members.{how_many_in};
 ghost use Rattle.ord_types.specs.Spelling.{request_text};
 ghost use Rattle.script.specs.Commands.{AreIds, IsWellFormed};
 ghost use Rattle.script.specs.declared.command.Command.TheVariants as command_of;
-ghost use Rattle.script_play.specs.Turns.{IsLimit, Turned};
+ghost use Rattle.script_play.specs.Turns.{EndsTurn, Turned};
 ghost use Rattle.node_model.specs.Cores.{Core};
 ghost use Rattle.world_model.specs.Cores.{core_setting};
-ghost use Rattle.world_model.specs.Turns.{at_node, closing_of, ordinary, refuses, submit_turn, turn_in, turn_of};
+ghost use Rattle.world_model.specs.Turns.{at_node, closing_of, ordinary, submit_turn, turn_in, turn_of};
 ghost use Rattle.world_model.specs.Worlds as worlds;
 ghost use Rattle.world_run.specs.Mapped.{world_of};
 
 use crate::texts::{put_genesis, put_refused, put_sent};
 use crate::world::World;
-use ord_types::{Bytes, List, NoMemory, ReqId, ReqKind, Request, put_request};
-use script::Command;
-use script_play::{Ending, Machine};
+use ord_types::{Bytes, List, NoMemory, ReqId, ReqKind, Request, fault_bound, put_request};
+use script::{Command, VoteKind};
+use script_play::{Ending, Machine, put_too_many_faulty};
 use std::alloc::Global;
 use std::mem;
 
@@ -34,42 +35,68 @@ impl Runner {
         Runner { alloc, world: None }
     }
 
-    /// A genesis makes the world.
-    fn open(&mut self, number: u64, members: List<u32>, text: &mut String) -> Result<(), NoMemory>
-        requires { AreIds members }
-        ensures { OnOk result (Turned (turn_of core_setting None number (command_of.Genesis members)) (string_bytes text.old) (string_bytes text.new) (option_map world_of self.new.world) None) }
+    /// A genesis makes the world. One with more Byzantine members than its bound ends the run.
+    fn open(
+        &mut self,
+        number: u64,
+        members: List<u32>,
+        byzantine: List<u32>,
+        text: &mut String,
+    ) -> Result<Option<Ending>, NoMemory>
+        requires none { self.old.world ≡ None }
+        requires ids { AreIds members }
+        ensures ends { IfOk result (λ ending. IfSome ending EndsTurn) }
+        ensures turned { IfOk result (λ ending. Turned (turn_of core_setting None number (command_of.Genesis members byzantine)) (string_bytes text.old) (string_bytes text.new) (option_map world_of self.new.world) ending) }
     {
-        let world = World::new(self.alloc, members)?;
+        let count = how_many_in(byzantine.as_slice(), members.as_slice());
+        let bound = fault_bound(members.len() as u32);
+        if bound < count {
+            put_too_many_faulty(text, number, 0, count, bound)?;
+            return Ok(Some(Ending::TooManyFaulty {
+                number,
+                config: 0,
+                count,
+                bound,
+            }));
+        }
+        let world = World::new(self.alloc, members, byzantine)?;
         put_genesis(text, number)?;
         self.world = Some(world);
-        Ok(())
+        Ok(None)
     }
 
     /// A command where there is no world yet: a genesis makes it.
-    fn begin(&mut self, number: u64, command: Command, text: &mut String) -> Result<(), NoMemory>
+    fn begin(
+        &mut self,
+        number: u64,
+        command: Command,
+        text: &mut String,
+    ) -> Result<Option<Ending>, NoMemory>
         requires none { self.old.world ≡ None }
         requires formed { IsWellFormed command }
-        ensures { OnOk result (Turned (turn_of core_setting None number command) (string_bytes text.old) (string_bytes text.new) (option_map world_of self.new.world) None) }
+        ensures ends { IfOk result (λ ending. IfSome ending EndsTurn) }
+        ensures turned { IfOk result (λ ending. Turned (turn_of core_setting None number command) (string_bytes text.old) (string_bytes text.new) (option_map world_of self.new.world) ending) }
     {
-        if let Command::Genesis { members } = command {
-            return self.open(number, members, text);
+        if let Command::Genesis { members, byzantine } = command {
+            return self.open(number, members, byzantine, text);
         }
         put_refused(text, number, "no world")?;
-        Ok(())
+        Ok(None)
     }
 }
 
-/// Refuses a line about a node that isn't in the world.
-fn refuse_node(world: &mut World) -> Result<Option<Ending>, NoMemory>
-    ensures limit { IfOk result (λ ending. IfSome ending IsLimit) }
-    ensures turned { IfOk result (λ ending. Turned (refuses world.old.outside.number (codes "unknown node") (world_of world.old)) (string_bytes world.old.outside.text) (string_bytes world.new.outside.text) (world_of world.new) ending) }
+/// How many of these ids are in the list.
+fn how_many_in(list: &[u32], ids: &[u32]) -> u32
+    requires { length ids.now ≤ 31 }
+    ensures { result ≡ how_many_in list.now ids.now }
 {
-    put_refused(
-        &mut world.outside.text,
-        world.outside.number,
-        "unknown node",
-    )?;
-    Ok(None)
+    let mut count = 0;
+    for id in ids {
+        if list.contains(id) {
+            count += 1;
+        }
+    }
+    count
 }
 
 /// The greatest length that a request tells of its payload, in bytes.
@@ -95,11 +122,11 @@ fn submit_bytes(
     word: &str,
     bytes: &[u8],
 ) -> Result<Option<Ending>, NoMemory>
-    ensures limit { IfOk result (λ ending. IfSome ending IsLimit) }
-    ensures turned { IfOk result (λ ending. Turned (at_node world.old.outside.number (world_of world.old) (worlds.node_at node (world_of world.old).nodes) (λ found. submit_turn world.old.outside.number word.now (world_of world.old) found bytes.now)) (string_bytes world.old.outside.text) (string_bytes world.new.outside.text) (world_of world.new) ending) }
+    ensures ends { IfOk result (λ ending. IfSome ending EndsTurn) }
+    ensures turned { IfOk result (λ ending. Turned (at_node world.old.outside.number (world_of world.old) node (λ found. submit_turn world.old.outside.number word.now (world_of world.old) found bytes.now)) (string_bytes world.old.outside.text) (string_bytes world.new.outside.text) (world_of world.new) ending) }
 {
     let Some(place) = world.find(node) else {
-        return refuse_node(world);
+        return world.refuse_absent(node);
     };
     world.submit(node, place, word, bytes)?;
     Ok(None)
@@ -111,7 +138,7 @@ fn submit(
     id: ReqId,
     payload: Bytes,
 ) -> Result<Option<Ending>, NoMemory>
-    ensures limit { IfOk result (λ ending. IfSome ending IsLimit) }
+    ensures ends { IfOk result (λ ending. IfSome ending EndsTurn) }
     ensures turned { IfOk result (λ ending. Turned (turn_in core_setting world.old.outside.number (world_of world.old) (command_of.Submit node id.client id.serial payload)) (string_bytes world.old.outside.text) (string_bytes world.new.outside.text) (world_of world.new) ending) }
 {
     let bytes = ordinary(world.outside.alloc, id, payload)?;
@@ -119,41 +146,100 @@ fn submit(
 }
 
 fn show(world: &mut World, node: u32, number: u64) -> Result<Option<Ending>, NoMemory>
-    ensures limit { IfOk result (λ ending. IfSome ending IsLimit) }
+    ensures ends { IfOk result (λ ending. IfSome ending EndsTurn) }
     ensures turned { IfOk result (λ ending. Turned (turn_in core_setting world.old.outside.number (world_of world.old) (command_of.Show node number)) (string_bytes world.old.outside.text) (string_bytes world.new.outside.text) (world_of world.new) ending) }
 {
     let Some(place) = world.find(node) else {
-        return refuse_node(world);
+        return world.refuse_absent(node);
     };
     world.show(node, place, number)?;
     Ok(None)
 }
 
 fn tick(world: &mut World, node: u32, count: u32) -> Result<Option<Ending>, NoMemory>
-    ensures limit { IfOk result (λ ending. IfSome ending IsLimit) }
+    ensures ends { IfOk result (λ ending. IfSome ending EndsTurn) }
     ensures turned { IfOk result (λ ending. Turned (turn_in core_setting world.old.outside.number (world_of world.old) (command_of.Tick node count)) (string_bytes world.old.outside.text) (string_bytes world.new.outside.text) (world_of world.new) ending) }
 {
     match world.find(node) {
-        None => refuse_node(world),
+        None => world.refuse_absent(node),
         Some(_) => world.ticks(node, count),
+    }
+}
+
+/// A Byzantine member proposes an ordinary request.
+fn propose(
+    world: &mut World,
+    from: u32,
+    to: u32,
+    view: u64,
+    id: ReqId,
+    payload: Bytes,
+) -> Result<Option<Ending>, NoMemory>
+    requires { length payload ≤ 65536 }
+    ensures ends { IfOk result (λ ending. IfSome ending EndsTurn) }
+    ensures turned { IfOk result (λ ending. Turned (turn_in core_setting world.old.outside.number (world_of world.old) (command_of.Propose from to view id.client id.serial payload)) (string_bytes world.old.outside.text) (string_bytes world.new.outside.text) (world_of world.new) ending) }
+{
+    let kind = ReqKind::Ordinary;
+    match world.bar(from, to) {
+        Some(bar) => world.refuse_barred(bar),
+        None => world.propose(from, to, view, Request { kind, id, payload }),
+    }
+}
+
+/// A Byzantine member votes for the block that is proposed in an entry.
+fn vote(
+    world: &mut World,
+    from: u32,
+    to: u32,
+    kind: VoteKind,
+    view: u64,
+    entry: u64,
+) -> Result<Option<Ending>, NoMemory>
+    ensures ends { IfOk result (λ ending. IfSome ending EndsTurn) }
+    ensures turned { IfOk result (λ ending. Turned (turn_in core_setting world.old.outside.number (world_of world.old) (command_of.Vote from to kind view entry)) (string_bytes world.old.outside.text) (string_bytes world.new.outside.text) (world_of world.new) ending) }
+{
+    match world.bar(from, to) {
+        Some(bar) => world.refuse_barred(bar),
+        None => world.vote(from, to, kind, view, entry),
+    }
+}
+
+/// A Byzantine member sends bytes.
+fn lie(world: &mut World, from: u32, to: u32, bytes: Bytes) -> Result<Option<Ending>, NoMemory>
+    ensures ends { IfOk result (λ ending. IfSome ending EndsTurn) }
+    ensures turned { IfOk result (λ ending. Turned (turn_in core_setting world.old.outside.number (world_of world.old) (command_of.Lie from to bytes)) (string_bytes world.old.outside.text) (string_bytes world.new.outside.text) (world_of world.new) ending) }
+{
+    match world.bar(from, to) {
+        Some(bar) => world.refuse_barred(bar),
+        None => world.lie(from, to, bytes),
+    }
+}
+
+/// A Byzantine member, or the administrator, who is 0, signs bytes.
+fn seal(world: &mut World, id: u32, bytes: &[u8]) -> Result<Option<Ending>, NoMemory>
+    ensures ends { IfOk result (λ ending. IfSome ending EndsTurn) }
+    ensures turned { IfOk result (λ ending. Turned (turn_in core_setting world.old.outside.number (world_of world.old) (command_of.Seal id bytes.now)) (string_bytes world.old.outside.text) (string_bytes world.new.outside.text) (world_of world.new) ending) }
+{
+    if id == 0 {
+        return world.seal(id, bytes);
+    }
+    match world.bar(id, id) {
+        Some(bar) => world.refuse_barred(bar),
+        None => world.seal(id, bytes),
     }
 }
 
 /// Does what a command asks of a world.
 fn turn_in(world: &mut World, command: Command) -> Result<Option<Ending>, NoMemory>
     requires { IsWellFormed command }
-    ensures limit { IfOk result (λ ending. IfSome ending IsLimit) }
+    ensures ends { IfOk result (λ ending. IfSome ending EndsTurn) }
     ensures turned { IfOk result (λ ending. Turned (turn_in core_setting world.old.outside.number (world_of world.old) command) (string_bytes world.old.outside.text) (string_bytes world.new.outside.text) (world_of world.new) ending) }
 {
     match command {
-        Command::Genesis { members: _members } => {
-            put_refused(
-                &mut world.outside.text,
-                world.outside.number,
-                "second genesis",
-            )?;
-            Ok(None)
-        }
+        Command::Genesis {
+            members: _members,
+            byzantine: _byzantine,
+        } => world.refuse("second genesis"),
         Command::Submit {
             node,
             client,
@@ -165,6 +251,23 @@ fn turn_in(world: &mut World, command: Command) -> Result<Option<Ending>, NoMemo
         Command::Tick { node, count } => tick(world, node, count),
         Command::Deliver { ranges } => world.deliver(ranges.as_slice()),
         Command::Flush { only } => world.flush(&only),
+        Command::Propose {
+            from,
+            to,
+            view,
+            client,
+            serial,
+            payload,
+        } => propose(world, from, to, view, ReqId { client, serial }, payload),
+        Command::Vote {
+            from,
+            to,
+            kind,
+            view,
+            entry,
+        } => vote(world, from, to, kind, view, entry),
+        Command::Lie { from, to, bytes } => lie(world, from, to, bytes),
+        Command::Seal { id, bytes } => seal(world, id, bytes.as_slice()),
     }
 }
 
@@ -184,8 +287,7 @@ impl Machine for Runner {
         text: &mut String,
     ) -> Result<Option<Ending>, NoMemory> {
         let Some(world) = &mut self.world else {
-            self.begin(number, command, text)?;
-            return Ok(None);
+            return self.begin(number, command, text);
         };
         world.outside.number = number;
         mem::swap(text, &mut world.outside.text);

@@ -11,6 +11,7 @@ ghost use Rattle.world_model.specs.Texts.{
   block_front_text,
   block_text,
   block_told,
+  byzantine_text,
   deliver_text,
   flush_text,
   first_id_text,
@@ -19,6 +20,7 @@ ghost use Rattle.world_model.specs.Texts.{
   id_text,
   ids_joined,
   limit_text,
+  lied_text,
   line_end,
   malformed_text,
   node_text,
@@ -27,6 +29,7 @@ ghost use Rattle.world_model.specs.Texts.{
   raft_text,
   refused_text,
   requests_count_text,
+  seal_text,
   sent_text,
   show_text,
   signers_text,
@@ -80,6 +83,27 @@ pub(crate) fn put_limit(text: &mut String, number: u64, limit: u64) -> Result<()
     ensures { OnOk result (string_bytes text.new ≡ string_bytes text.old ++ limit_text number limit) }
 {
     write!(text, "{number} limit {limit}\n")
+}
+
+/// What a Byzantine member sent, by a line that begins with this word: the number of the entry.
+#[tactic(auto, unfolding(world_model::specs::Texts::lied_text))]
+pub(crate) fn put_lied(
+    text: &mut String,
+    number: u64,
+    word: &str,
+    sent: usize,
+) -> Result<(), AllocError>
+    ensures { OnOk result (string_bytes text.new ≡ string_bytes text.old ++ lied_text number word.now sent) }
+{
+    write!(text, "{number} {word} {sent}\n")
+}
+
+/// The place of a seal in the box.
+#[tactic(auto, unfolding(world_model::specs::Texts::seal_text))]
+pub(crate) fn put_seal(text: &mut String, number: u64, place: usize) -> Result<(), AllocError>
+    ensures { OnOk result (string_bytes text.new ≡ string_bytes text.old ++ seal_text number place) }
+{
+    write!(text, "{number} seal {place}\n")
 }
 
 #[tactic(auto, unfolding(world_model::specs::Texts::admitted_text))]
@@ -318,6 +342,14 @@ pub(crate) fn put_node(
         text,
         "node {id} height {height} config {config} view {view} left {left}\n"
     )
+}
+
+/// The closing line of a Byzantine member.
+#[tactic(auto, unfolding(world_model::specs::Texts::byzantine_text))]
+pub(crate) fn put_byzantine(text: &mut String, id: u32) -> Result<(), AllocError>
+    ensures { OnOk result (string_bytes text.new ≡ string_bytes text.old ++ byzantine_text id) }
+{
+    write!(text, "node {id} byzantine\n")
 }
 
 #[tactic(auto, unfolding(world_model::specs::Texts::sent_text))]

@@ -1,14 +1,13 @@
 //! The world of a script: its nodes, the network, and what an event changes.
-ghost use Rattle.std.specs.Prelude.{◌≡◌, ◌==◌, ◌<◌, ◌≤◌, ◌+◌, ◌-◌, ◌^◌, ◌++◌, All, ℕ, List as Items, true, IfNone, IfOk, IfSome, OnOk, Some, None, length, position, slice_get, string_bytes, vec_len};
+ghost use Rattle.std.specs.Prelude.{◌≡◌, ◌==◌, ◌<◌, ◌≤◌, ◌+◌, ◌-◌, ◌^◌, ◌++◌, All, ℕ, List as Items, false, IfNone, IfOk, IfSome, OnOk, Some, None, is_some, length, map, position, slice_get, string_bytes, vec_len};
 ghost use Rattle.ord_types.specs.Genesis.{IsGenesisConfig};
 ghost use Rattle.script.specs.Commands.{IsRange};
-ghost use Rattle.script_play.specs.Turns.{IsLimit, Turned};
-ghost use Rattle.node_model.specs.Cores.{Core, core_ways};
+ghost use Rattle.script_play.specs.Turns.{EndsTurn, Turned};
+ghost use Rattle.node_model.specs.Cores.{Core};
 ghost use Rattle.node_model.specs.Steps.{FromMember};
-ghost use Rattle.std.specs.List.{flat_map};
 ghost use Rattle.world_model.specs.Cores.{core_setting};
-ghost use Rattle.world_model.specs.Texts.{closing_line, sent_text};
 ghost use Rattle.world_model.specs.Turns.{
+  counted,
   deliver_turn,
   deliveries,
   delivery,
@@ -16,23 +15,18 @@ ghost use Rattle.world_model.specs.Turns.{
   first_config,
   first_world,
   flush_turn,
-  show_turn,
-  submit_turn,
   tick_at,
   ticks,
   within_limit,
 };
 ghost use Rattle.world_model.specs.Worlds as worlds;
 ghost use Rattle.world_run.specs.Entries.{entry_of};
-ghost use Rattle.world_run.specs.Going.{have_come};
+ghost use Rattle.world_run.specs.Nodes.{node_of};
+ghost use Rattle.world_run.specs.Waiting.{waits_before};
 
 use crate::network::Entry;
 use crate::node::{Node, Outside};
-use crate::pool::submit;
-use crate::texts::{
-    put_answer, put_deliver, put_flush, put_limit, put_node, put_refused, put_sent, put_show,
-    put_tick,
-};
+use crate::texts::{put_deliver, put_flush, put_limit, put_refused, put_tick};
 use ord_types::{Batch, Config, Kind, List, Mode, NoMemory};
 use script::Range;
 use script_play::Ending;
@@ -48,12 +42,17 @@ const MOST_FLUSHED: u64 = 10_000;
 
 #[derive(Drop)]
 pub(crate) struct World {
+    /// The first configuration.
+    pub(crate) config: Config,
+    /// Who is Byzantine. A Byzantine member has no node.
+    pub(crate) byzantine: List<u32>,
     pub(crate) nodes: Vec<Node>,
     pub(crate) outside: Outside,
-    /// The place of the first entry that may wait: those before it have come.
+    /// The place of the first entry that may wait: those before it have come, or their receivers have no
+    /// nodes.
     pub(crate) first_waiting: usize,
     ghost within: { first_waiting ≤ length outside.network.items },
-    ghost passed: { have_come first_waiting outside.network.items ≡ true },
+    ghost passed: { waits_before first_waiting nodes.items outside.network.items ≡ false },
 }
 
 /// The configuration of a genesis with batches of one request.
@@ -75,21 +74,38 @@ pub(crate) fn first_config(members: List<u32>) -> Config
     }
 }
 
+/// The nodes of the members that are not Byzantine.
+fn first_nodes(alloc: Global, config: &Config, byzantine: &[u32]) -> Result<Vec<Node>, NoMemory>
+    requires { IsGenesisConfig config.now }
+    ensures { IfOk result (λ nodes. map node_of nodes.items ≡ (first_world core_setting config.now byzantine.now).nodes) }
+{
+    let mut nodes = Vec::new(alloc);
+    for id in config.members.as_slice() {
+        if !byzantine.contains(id) {
+            nodes.push(Node::new(alloc, config, *id)?)?;
+        }
+    }
+    Ok(nodes)
+}
+
 impl World {
-    ghost use Rattle.world_run.specs.Going.{Delivers, IsLimited};
+    ghost use Rattle.world_run.specs.Going.{Delivers, EndsDelivery};
     ghost use Rattle.world_run.specs.Mapped.{world_of};
 
     /// The world of a genesis.
-    pub(crate) fn new(alloc: Global, members: List<u32>) -> Result<World, NoMemory>
+    pub(crate) fn new(
+        alloc: Global,
+        members: List<u32>,
+        byzantine: List<u32>,
+    ) -> Result<World, NoMemory>
         requires { IsGenesisConfig (first_config members) }
-        ensures { IfOk result (λ world. world_of world ≡ first_world core_setting (first_config members)) }
+        ensures { IfOk result (λ world. world_of world ≡ first_world core_setting (first_config members) byzantine) }
     {
         let config = first_config(members);
-        let mut nodes = Vec::new(alloc);
-        for id in config.members.as_slice() {
-            nodes.push(Node::new(alloc, &config, *id)?)?;
-        }
+        let nodes = first_nodes(alloc, &config, byzantine.as_slice())?;
         Ok(World {
+            config,
+            byzantine,
             nodes,
             outside: Outside {
                 alloc,
@@ -109,8 +125,18 @@ impl World {
         self.nodes.iter().position(|node| node.id == id)
     }
 
+    /// Whether an id has a node.
+    fn has_node(&self, id: u32) -> bool
+        ensures { result ≡ is_some (worlds.node_at id (world_of self.now).nodes) }
+    {
+        match self.find(id) {
+            None => false,
+            Some(_) => true,
+        }
+    }
+
     /// Gives the box of seals to a signer.
-    fn give_seat(&mut self, id: u32) -> Result<(), NoMemory>
+    pub(crate) fn give_seat(&mut self, id: u32) -> Result<(), NoMemory>
         ensures { OnOk result (self.new ≡ record self.old { outside = record self.old.outside { seat = record { id = id; seals = self.old.outside.seat.seals } } }) }
     {
         let empty = SealBox::new(self.outside.alloc)?.seat(id);
@@ -120,8 +146,8 @@ impl World {
     }
 
     /// Ends the run where more messages were sent than may be.
-    fn within_limit(&mut self) -> Result<Option<Ending>, NoMemory>
-        ensures limit { IfOk result (λ ending. IfSome ending IsLimit) }
+    pub(crate) fn within_limit(&mut self) -> Result<Option<Ending>, NoMemory>
+        ensures ends { IfOk result (λ ending. IfSome ending EndsTurn) }
         ensures turned { IfOk result (λ ending. (before blocks : Items ℕ) → string_bytes self.old.outside.text ≡ before ++ blocks → Turned (within_limit self.old.outside.number blocks (world_of self.old)) before (string_bytes self.new.outside.text) (world_of self.new) ending) }
         ensures number { OnOk result (self.new.outside.number ≡ self.old.outside.number) }
     {
@@ -136,7 +162,7 @@ impl World {
     /// One tick of the node of this id, which stands at this place.
     fn tick_at(&mut self, id: u32, place: usize) -> Result<Option<Ending>, NoMemory>
         requires { position (λ node. node.id == id) self.old.nodes.items ≡ Some place }
-        ensures limit { IfOk result (λ ending. IfSome ending IsLimit) }
+        ensures ends { IfOk result (λ ending. IfSome ending EndsTurn) }
         ensures turned { IfOk result (λ ending. Turned (tick_at core_setting self.old.outside.number (world_of self.old) (worlds.node_at id (world_of self.old).nodes)) (string_bytes self.old.outside.text) (string_bytes self.new.outside.text) (world_of self.new) ending) }
         ensures number { OnOk result (self.new.outside.number ≡ self.old.outside.number) }
     {
@@ -149,7 +175,7 @@ impl World {
 
     /// One tick of a node, if it is in the world.
     fn tick_node(&mut self, id: u32) -> Result<Option<Ending>, NoMemory>
-        ensures limit { IfOk result (λ ending. IfSome ending IsLimit) }
+        ensures ends { IfOk result (λ ending. IfSome ending EndsTurn) }
         ensures turned { IfOk result (λ ending. Turned (tick_at core_setting self.old.outside.number (world_of self.old) (worlds.node_at id (world_of self.old).nodes)) (string_bytes self.old.outside.text) (string_bytes self.new.outside.text) (world_of self.new) ending) }
         ensures number { OnOk result (self.new.outside.number ≡ self.old.outside.number) }
     {
@@ -161,7 +187,7 @@ impl World {
 
     /// So many ticks of a node.
     pub(crate) fn ticks(&mut self, id: u32, count: u32) -> Result<Option<Ending>, NoMemory>
-        ensures limit { IfOk result (λ ending. IfSome ending IsLimit) }
+        ensures ends { IfOk result (λ ending. IfSome ending EndsTurn) }
         ensures turned { IfOk result (λ ending. Turned (ticks core_setting self.old.outside.number id count (world_of self.old)) (string_bytes self.old.outside.text) (string_bytes self.new.outside.text) (world_of self.new) ending) }
         ensures number { OnOk result (self.new.outside.number ≡ self.old.outside.number) }
     {
@@ -183,7 +209,7 @@ impl World {
         bytes: &[u8],
     ) -> Result<Option<Ending>, NoMemory>
         requires { position (λ node. node.id == id) self.old.nodes.items ≡ Some place }
-        ensures limit { IfOk result (λ ending. IfSome ending IsLimit) }
+        ensures ends { IfOk result (λ ending. IfSome ending EndsTurn) }
         ensures turned { IfOk result (λ ending. (node : worlds.Node Core) → worlds.node_at id (world_of self.old).nodes ≡ Some node → Turned (event_turn core_setting self.old.outside.number (world_of self.old) node (FromMember from bytes.now)) (string_bytes self.old.outside.text) (string_bytes self.new.outside.text) (world_of self.new) ending) }
         ensures number { OnOk result (self.new.outside.number ≡ self.old.outside.number) }
     {
@@ -194,26 +220,39 @@ impl World {
         self.within_limit()
     }
 
-    /// The entry at this place, counted from 0, comes to its receiver.
+    /// The entry at this place, counted from 0, comes to its receiver. Where that has no node, it is lost, and
+    /// has not come.
     fn deliver_entry(&mut self, at: usize) -> Result<Option<Ending>, NoMemory>
         requires { at < vec_len self.old.outside.network }
-        ensures limit { IfOk result (λ ending. IfSome ending IsLimit) }
+        ensures ends { IfOk result (λ ending. IfSome ending EndsTurn) }
         ensures turned { IfOk result (λ ending. (entry : worlds.Entry) → slice_get (world_of self.old).network at ≡ Some entry → Turned (delivery core_setting self.old.outside.number at entry (world_of self.old)) (string_bytes self.old.outside.text) (string_bytes self.new.outside.text) (world_of self.new) ending) }
         ensures number { OnOk result (self.new.outside.number ≡ self.old.outside.number) }
     {
+        let to = self.outside.network[at].to;
+        let Some(place) = self.find(to) else {
+            return Ok(None);
+        };
         let entry = &mut self.outside.network[at];
         entry.came = true;
         let from = entry.from;
-        let to = entry.to;
         let bytes = entry.bytes.clone()?;
-        match self.find(to) {
-            None => Ok(None),
-            Some(place) => self.take_at(to, place, from, bytes.as_ref().as_slice()),
+        self.take_at(to, place, from, bytes.as_ref().as_slice())
+    }
+
+    /// How many entries are delivered with the one at this place. A lost one isn't counted.
+    fn counted(&self, at: usize, so_far: u64) -> Result<u64, NoMemory>
+        requires { at < vec_len self.now.outside.network }
+        ensures { IfOk result (λ count. (entry : worlds.Entry) → slice_get (world_of self.now).network at ≡ Some entry → count ≡ counted entry (world_of self.now).nodes so_far) }
+    {
+        if !self.has_node(self.outside.network[at].to) {
+            return Ok(so_far);
         }
+        let count = so_far.checked_add(1).ok_or(NoMemory)?;
+        Ok(count)
     }
 
     /// The place of the entry with this number.
-    fn place_of_entry(&self, number: u64) -> Option<usize>
+    pub(crate) fn place_of_entry(&self, number: u64) -> Option<usize>
         ensures none { IfNone result (worlds.entry number (world_of self.now) ≡ None) }
         ensures some { IfSome result (λ at. (at < vec_len self.now.outside.network) × (number ≡ at + 1)) }
     {
@@ -229,7 +268,7 @@ impl World {
     /// refuses the line.
     fn deliver_range(&mut self, range: Range, so_far: u64) -> Result<Delivered, NoMemory>
         requires { range.last < 2 ^ 64 - 1 }
-        ensures limit { IfOk result IsLimited }
+        ensures ends { IfOk result EndsDelivery }
         ensures delivers { IfOk result (Delivers (deliveries core_setting self.old.outside.number (range.last + 1 - range.first) range.first so_far (world_of self.old)) (string_bytes self.old.outside.text) (string_bytes self.new.outside.text) (world_of self.new)) }
         ensures number { OnOk result (self.new.outside.number ≡ self.old.outside.number) }
     {
@@ -239,10 +278,11 @@ impl World {
                 put_refused(&mut self.outside.text, self.outside.number, "no entry")?;
                 return Ok(Delivered::Refused);
             };
+            let sum = self.counted(at, count)?;
             if let Some(ending) = self.deliver_entry(at)? {
                 return Ok(Delivered::Ended(ending));
             }
-            count = count.checked_add(1).ok_or(NoMemory)?;
+            count = sum;
         }
         Ok(Delivered::All(count))
     }
@@ -250,7 +290,7 @@ impl World {
     /// Delivers these entries, in this order.
     pub(crate) fn deliver(&mut self, ranges: &[Range]) -> Result<Option<Ending>, NoMemory>
         requires { All IsRange ranges.now }
-        ensures limit { IfOk result (λ ending. IfSome ending IsLimit) }
+        ensures ends { IfOk result (λ ending. IfSome ending EndsTurn) }
         ensures turned { IfOk result (λ ending. Turned (deliver_turn core_setting self.old.outside.number ranges.now 0 (world_of self.old)) (string_bytes self.old.outside.text) (string_bytes self.new.outside.text) (world_of self.new) ending) }
         ensures number { OnOk result (self.new.outside.number ≡ self.old.outside.number) }
     {
@@ -266,13 +306,28 @@ impl World {
         Ok(None)
     }
 
-    /// Passes over the entries that have come.
+    /// Whether an entry waits for its receiver.
+    fn waits(&self, only: &Option<List<u32>>, entry: &Entry) -> bool
+        ensures { result ≡ worlds.is_waiting (world_of self.now).nodes only.now (entry_of entry.now) }
+    {
+        !entry.came && is_named(only, entry) && self.has_node(entry.to)
+    }
+
+    /// Whether the entry at this place waits for its receiver.
+    fn is_waiting(&self, only: &Option<List<u32>>, at: usize) -> bool
+        requires { at < vec_len self.now.outside.network }
+        ensures { (entry : worlds.Entry) → slice_get (world_of self.now).network at ≡ Some entry → result ≡ worlds.is_waiting (world_of self.now).nodes only.now entry }
+    {
+        self.waits(only, &self.outside.network[at])
+    }
+
+    /// Passes over the entries that have come, and those whose receivers have no nodes.
     fn pass_over(&mut self)
         ensures world { world_of self.new ≡ world_of self.old }
         ensures outside { self.new.outside ≡ self.old.outside }
     {
         while self.first_waiting < self.outside.network.len()
-            && self.outside.network[self.first_waiting].came
+            && !self.is_waiting(&None, self.first_waiting)
         {
             self.first_waiting += 1;
         }
@@ -280,7 +335,7 @@ impl World {
 
     /// Delivers the entries that wait, between these ids alone where there are some.
     pub(crate) fn flush(&mut self, only: &Option<List<u32>>) -> Result<Option<Ending>, NoMemory>
-        ensures limit { IfOk result (λ ending. IfSome ending IsLimit) }
+        ensures ends { IfOk result (λ ending. IfSome ending EndsTurn) }
         ensures turned { IfOk result (λ ending. Turned (flush_turn core_setting self.old.outside.number only.now 10000 0 (world_of self.old)) (string_bytes self.old.outside.text) (string_bytes self.new.outside.text) (world_of self.new) ending) }
         ensures number { OnOk result (self.new.outside.number ≡ self.old.outside.number) }
     {
@@ -288,7 +343,7 @@ impl World {
         let mut at = self.first_waiting;
         let mut count = 0;
         while count < MOST_FLUSHED && at < self.outside.network.len() {
-            if is_waiting(only, &self.outside.network[at]) {
+            if self.is_waiting(only, at) {
                 if let Some(ending) = self.deliver_entry(at)? {
                     return Ok(Some(ending));
                 }
@@ -298,65 +353,6 @@ impl World {
         }
         put_flush(&mut self.outside.text, self.outside.number, count)?;
         Ok(None)
-    }
-
-    /// Submits bytes to a node's pool, by a line that begins with this word.
-    pub(crate) fn submit(
-        &mut self,
-        to: u32,
-        place: usize,
-        word: &str,
-        bytes: &[u8],
-    ) -> Result<(), NoMemory>
-        requires { position (λ node. node.id == to) self.old.nodes.items ≡ Some place }
-        ensures turned { OnOk result ((node : worlds.Node Core) → worlds.node_at to (world_of self.old).nodes ≡ Some node → Turned (submit_turn self.old.outside.number word.now (world_of self.old) node bytes.now) (string_bytes self.old.outside.text) (string_bytes self.new.outside.text) (world_of self.new) None) }
-        ensures number { OnOk result (self.new.outside.number ≡ self.old.outside.number) }
-    {
-        let alloc = self.outside.alloc;
-        let node = &mut self.nodes[place];
-        let answer = submit(alloc, &mut node.pool, bytes)?;
-        put_answer(
-            &mut self.outside.text,
-            self.outside.number,
-            word,
-            to,
-            answer,
-        )?;
-        Ok(())
-    }
-
-    /// Shows the block of this number in a node's ledger.
-    pub(crate) fn show(&mut self, id: u32, place: usize, number: u64) -> Result<(), NoMemory>
-        requires { position (λ node. node.id == id) self.old.nodes.items ≡ Some place }
-        ensures turned { OnOk result ((node : worlds.Node Core) → worlds.node_at id (world_of self.old).nodes ≡ Some node → Turned (show_turn self.old.outside.number (world_of self.old) node number) (string_bytes self.old.outside.text) (string_bytes self.new.outside.text) (world_of self.new) None) }
-        ensures number { OnOk result (self.new.outside.number ≡ self.old.outside.number) }
-    {
-        let line = self.outside.number;
-        let text = &mut self.outside.text;
-        match self.nodes[place].stored(number) {
-            None => put_refused(text, line, "no block")?,
-            Some(stored) => put_show(text, line, id, &stored.0, &stored.1)?,
-        }
-        Ok(())
-    }
-
-    /// The closing lines.
-    pub(crate) fn closing(&self, text: &mut String) -> Result<(), NoMemory>
-        ensures { OnOk result (string_bytes text.new ≡ string_bytes text.old ++ (flat_map (closing_line core_ways) (world_of self.now).nodes ++ sent_text (length (world_of self.now).network))) }
-    {
-        for node in self.nodes.as_slice() {
-            let config = node.place.config.number;
-            put_node(
-                text,
-                node.id,
-                node.place.height,
-                config,
-                node.view.view(),
-                node.view.left(),
-            )?;
-        }
-        put_sent(text, self.outside.network.len())?;
-        Ok(())
     }
 }
 
@@ -378,11 +374,4 @@ fn is_named(only: &Option<List<u32>>, entry: &Entry) -> bool
             ids.contains(&entry.from) && ids.contains(&entry.to)
         }
     }
-}
-
-/// Whether an entry waits for its receiver.
-fn is_waiting(only: &Option<List<u32>>, entry: &Entry) -> bool
-    ensures { result ≡ worlds.is_waiting only.now (entry_of entry.now) }
-{
-    !entry.came && is_named(only, entry)
 }

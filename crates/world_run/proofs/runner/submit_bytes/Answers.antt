@@ -4,7 +4,7 @@ use Rattle.world_run.proofs.ListLemmas.{node_at_none, node_at_some}
 use Rattle.world_run.proofs.runner.submit_bytes.Goals as goal
 
 pub returns-in_default-clause-turned : goal.returns-in_default-clause-turned
-returns-in_default-clause-turned c = rw (node_at_none c.args.node c.args.world.now.nodes.items (sym c.find.ensures ∙ c.in_default.is)) c.refuse_node.ensures.turned
+returns-in_default-clause-turned c = rw (node_at_none c.args.node c.args.world.now.nodes.items (sym c.find.ensures ∙ c.in_default.is)) c.refuse_absent.ensures.turned
 
 pub returns-clause-turned : goal.returns-clause-turned
 returns-clause-turned c =

@@ -3,7 +3,7 @@ use Rattle.world_run.proofs.ListLemmas.{node_at_none, node_at_some}
 use Rattle.world_run.proofs.runner.tick.Goals as goal
 
 pub returns-in-None-clause-turned : goal.returns-in-None-clause-turned
-returns-in-None-clause-turned c = rw (node_at_none c.args.node c.args.world.now.nodes.items (sym c.in-None.ensures)) c.refuse_node.ensures.turned
+returns-in-None-clause-turned c = rw (node_at_none c.args.node c.args.world.now.nodes.items (sym c.in-None.ensures)) c.refuse_absent.ensures.turned
 
 pub returns-in-Some-clause-turned : goal.returns-in-Some-clause-turned
 returns-in-Some-clause-turned c =

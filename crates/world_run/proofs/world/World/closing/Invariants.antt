@@ -1,9 +1,11 @@
-use Rattle.std.proofs.Common.{◌≡◌, ◌++◌, map, string_bytes, take}
+use Rattle.std.proofs.Common.{◌≡◌, ◌++◌, string_bytes, take}
 use Rattle.std.specs.List.{flat_map}
-use Rattle.node_model.specs.Cores.{core_ways}
-use Rattle.world_model.specs.Texts.{closing_line}
-use Rattle.world_run.specs.Nodes.{node_of}
+use Rattle.world_model.specs.Cores.{core_setting}
+use Rattle.world_model.specs.Turns.{closing_of_member}
+use Rattle.world_model.specs.Worlds.{node_at}
+use Rattle.world_run.specs.Mapped.{world_of}
 use Rattle.world_run.proofs.world.World.closing.Given as goal
 
-abbrev pub invariant-loop-node : goal.invariant-loop-node
-invariant-loop-node l = string_bytes l.text ≡ string_bytes l.fn.text ++ flat_map (closing_line core_ways) (map node_of (take l.node-index l.node-items))
+abbrev pub invariant-loop-id : goal.invariant-loop-id
+invariant-loop-id l =
+    string_bytes l.text ≡ string_bytes l.fn.text ++ flat_map (λ id. closing_of_member core_setting id (node_at id (world_of l.self).nodes)) (take l.id-index l.id-items)

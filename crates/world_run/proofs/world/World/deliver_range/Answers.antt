@@ -43,11 +43,11 @@ loop-number-preserved c =
     let within : c.in-Some.at < length (map entry_of network.items) = omega (arith, length-map network.items entry_of, c.in-Some.ensures.some.0) in
     let e = item_at (map entry_of network.items) c.in-Some.at within in
     let turned = rw (c.in_default-2.is, so_far.number) at (c.in_ok-ending.ensures.turned e.0 e.1) in
-    let one_more : c.in_ok-count.count ≡ c.loop-number.count + 1 = (rw c.in_ok-count.ensures.ok_part at c.checked_add.ensures).1 in
+    let sum = c.in_ok-sum.ensures e.0 e.1 in
     record {
       goes = λ rest.
           Goes-trans _ _ _ _ _ _ (so_far.goes rest)
-          (rw one_more (deliveries_more c.args.self.now.outside.number (end - k) (end - (k + 1)) k c.in-Some.at c.loop-number.count (world_of c.loop-number.self) _ e.0 _ _ rest (omega arith) c.in-Some.ensures.some.1 e.1 turned));
+          (rw sum (deliveries_more c.args.self.now.outside.number (end - k) (end - (k + 1)) k c.in-Some.at c.loop-number.count (world_of c.loop-number.self) _ e.0 _ _ rest (omega arith) c.in-Some.ensures.some.1 e.1 turned));
       number = c.in_ok-ending.ensures.number ∙ so_far.number;
     }
 

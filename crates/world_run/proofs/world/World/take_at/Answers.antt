@@ -1,4 +1,4 @@
-use Rattle.std.proofs.Common.{sym, ◌∙◌, ◌≡◌, ◌≤◌, ℕ, length, true, subst, Option, Some}
+use Rattle.std.proofs.Common.{sym, ◌∙◌, ◌≡◌, ◌≤◌, ℕ, length, false, set, subst, Option, Some}
 use Rattle.std.specs.Prelude.{string_bytes}
 use Rattle.std.proofs.lemmas.Result.{on_ok_weaker, IfOk-weaker}
 use Rattle.std.proofs.lemmas.Option.{same_Some}
@@ -9,7 +9,7 @@ use Rattle.script_play.specs.declared.ending.Ending.{Ending}
 use Rattle.world_model.specs.Cores.{core_setting}
 use Rattle.world_model.specs.Turns.{event_turn}
 use Rattle.world_model.specs.Worlds as worlds
-use Rattle.world_run.specs.Going.{have_come}
+use Rattle.world_run.specs.Waiting.{waits_before}
 use Rattle.world_run.specs.Mapped.{world_of}
 use Rattle.world_run.specs.Nodes.{node_of}
 use Rattle.world_run.proofs.StepLemmas.{before_in, event_turned, is_seated, passed_on, within_on}
@@ -30,7 +30,7 @@ returns-clause-turned c =
     (λ (ending : Option Ending). Turned (event_turn core_setting w.outside.number (world_of w) (node_of old) event) (string_bytes w.outside.text) after next ending)
     (λ (ending : Option Ending). (node : worlds.Node Core) → worlds.node_at c.args.id (world_of w).nodes ≡ Some node → Turned (event_turn core_setting w.outside.number (world_of w) node event) (string_bytes w.outside.text) after next ending)
     (λ ending turned node is. subst (λ (n : worlds.Node Core). Turned (event_turn core_setting w.outside.number (world_of w) n event) (string_bytes w.outside.text) after next ending) (same_Some _ _ (sym here ∙ is)) turned)
-    (event_turned w c.args.id c.args.place old c.take.new.self c.take.new.outside event _ _ _ _ c.requires seated.read seated.nodes made c.within_limit.ensures.turned)
+    (event_turned w c.give_seat.new.self c.args.id c.args.place old c.take.new.self c.take.new.outside event _ _ _ c.requires seated made c.within_limit.ensures.turned)
 
 pub returns-clause-number : goal.returns-clause-number
 returns-clause-number c =
@@ -50,5 +50,5 @@ invariant_of-self-2 c =
     let new = c.take.new in
     record {
       within = subst (λ (n : ℕ). n ≤ length new.outside.network.items) first (within_on w old new.self new.outside _ made);
-      passed = subst (λ (n : ℕ). have_come n new.outside.network.items ≡ true) first (passed_on w old new.self new.outside _ made);
+      passed = subst (λ (n : ℕ). waits_before n (set c.give_seat.new.self.nodes.items c.args.place new.self) new.outside.network.items ≡ false) first (passed_on w c.give_seat.new.self c.args.id c.args.place old new.self new.outside _ c.requires seated made);
     }
