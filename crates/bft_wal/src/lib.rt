@@ -7,10 +7,12 @@ mod decoding;
 mod durable;
 mod encoding;
 mod fold;
+mod laws;
 mod record;
 mod tally;
 mod wal;
 
 pub use durable::Durable;
+pub use laws::{one_record_more, records_are_read, settled_wal_stands};
 pub use record::WalRecord;
 pub use wal::Wal;
