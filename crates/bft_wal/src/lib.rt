@@ -7,9 +7,15 @@ mod decoding;
 mod durable;
 mod encoding;
 mod fold;
+#[cfg(test)]
+mod fold_tests;
 mod laws;
 mod record;
 mod tally;
+#[cfg(test)]
+mod tests;
+#[cfg(test)]
+mod vectors;
 mod wal;
 
 pub use durable::Durable;
