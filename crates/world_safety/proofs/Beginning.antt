@@ -49,7 +49,7 @@ first_good members byzantine are few =
           (all_map (λ id. is_in id ids ≡ true) (λ id. NodeIn su [] [] (node id)) (λ id is. record { setup = refl; id = refl; correct = is; stands = opened su id; pool = All-nil HasRequestSpelling; stored = refl; sealed = record { config = refl; letters = tt } }) ids (members_in ids ids (λ id is. is)));
       network = tt;
       certified = tt;
-      backed = tt;
+      sealed = tt;
     }
 
 -- a good world of some setup, where there is a world

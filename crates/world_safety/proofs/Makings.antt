@@ -35,7 +35,8 @@ use Rattle.world_safety.proofs.Preparing.{due_is, preparations_allowed}
 use Rattle.world_safety.proofs.Delivering.{deliveries_allowed, delivery_is, delivery_spelled}
 use Rattle.world_safety.proofs.Fits.{DeliveredFits, FactFits, FitsAt}
 use Rattle.world_safety.proofs.Fitting.{PlaceFits, acceptance_fits, proposal_fits, view_fits}
-use Rattle.world_safety.proofs.Backing.{IsBackedStatement, prepared_backed, statement_more}
+use Rattle.world_safety.specs.Safe.{IsPreparedStatement}
+use Rattle.world_safety.proofs.Backing.{statement_more}
 use Rattle.world_safety.proofs.Placing.{IsBounded, genesis_first, place_fits}
 use Rattle.world_safety.proofs.Sending.{commit_fits, hash_fits, prepare_fits, preprepare_fits}
 use Rattle.world_safety.proofs.Nodes.{IsGoodEvent, NodeStands, did_accept, did_deliver, did_prepare, event_came, ground_more, signed_commit, stands, stands_last}
@@ -71,7 +72,7 @@ pub record MakingStands (su : Setup) (i : ℕ) (h : History) (m : Making PastNod
   pub node : NodeStands m.state.setup (told h m) m.state.id m.state.past
   pub posts : AllByRecursion (IsGoodPost (told h m) m.state.id) m.posts
   pub actors : AllByRecursion (λ f. (actor f == m.state.id) ≡ true) m.facts
-  pub signed : AllByRecursion (IsBackedStatement (told h m) m.state.id) m.signed
+  pub signed : AllByRecursion (IsPreparedStatement (told h m) m.state.id) m.signed
 
 told_more : (h : History) (facts : List Fact) (f : Fact) → f ∷ (reverse facts ++ h) ≡ reverse (facts ++ f ∷ []) ++ h
 told_more h facts f = ap (λ (g : History). g ++ h) (sym (reverse-append facts (f ∷ [])))
@@ -80,7 +81,7 @@ told_more h facts f = ap (λ (g : History). g ++ h) (sym (reverse-append facts (
 after_fact : (su : Setup) (i : ℕ) (h : History) (m : Making PastNode) → MakingStands su i h m
     → (f : Fact) (past : Past) (posts : List Post) (signed : List (List ℕ)) → Allowed m.state.setup (told h m) f → (actor f == m.state.id) ≡ true → FactFits f
     → NodeStands m.state.setup (f ∷ told h m) m.state.id past → AllByRecursion (IsGoodPost (f ∷ told h m) m.state.id) posts
-    → AllByRecursion (IsBackedStatement (f ∷ told h m) m.state.id) signed
+    → AllByRecursion (IsPreparedStatement (f ∷ told h m) m.state.id) signed
     → MakingStands su i h (record { state = record { setup = m.state.setup; id = m.state.id; past = past }; facts = m.facts ++ f ∷ []; posts = m.posts ++ posts; signed = signed })
 after_fact su i h m st f past posts signed ok mine fits node good backed =
     let n = m.state in
@@ -96,14 +97,14 @@ after_fact su i h m st f past posts signed ok mine fits node good backed =
       node = subst (λ (g : History). NodeStands n.setup g n.id past) is node;
       posts = subst (λ (g : History). AllByRecursion (IsGoodPost g n.id) (m.posts ++ posts)) is (all_append (IsGoodPost (f ∷ told h m) n.id) m.posts posts older good);
       actors = all_append (λ f. (actor f == n.id) ≡ true) m.facts (f ∷ []) st.actors (mine, tt);
-      signed = subst (λ (g : History). AllByRecursion (IsBackedStatement g n.id) signed) is backed;
+      signed = subst (λ (g : History). AllByRecursion (IsPreparedStatement g n.id) signed) is backed;
     }
 
--- what was signed before stays backed
-signed_older : (su : Setup) (i : ℕ) (h : History) (m : Making PastNode) → MakingStands su i h m → (f : Fact) → AllByRecursion (IsBackedStatement (f ∷ told h m) m.state.id) m.signed
+-- what was signed before stays prepared
+signed_older : (su : Setup) (i : ℕ) (h : History) (m : Making PastNode) → MakingStands su i h m → (f : Fact) → AllByRecursion (IsPreparedStatement (f ∷ told h m) m.state.id) m.signed
 signed_older su i h m st f =
     let g = told h m in
-    all_map (IsBackedStatement g m.state.id) (IsBackedStatement (f ∷ g) m.state.id) (λ statement is. statement_more g f m.state.id statement is) m.signed st.signed
+    all_map (IsPreparedStatement g m.state.id) (IsPreparedStatement (f ∷ g) m.state.id) (λ statement is. statement_more g f m.state.id statement is) m.signed st.signed
 
 -- a message to all others
 sent_all : (h : History) (i : ℕ) (members : List ℕ) (message : Message) → IsGoodMessage h i message → AllByRecursion (IsGoodPost h i) (to_all members i message)
@@ -180,8 +181,21 @@ module _ (su : Setup) (i : ℕ) (h : History) (bounded : IsBounded su) (correct 
       (signed_commit n.setup (f ∷ told h m) n.id (Did f None ∷ n.past) commit (keys.accepts signed)
       (did_prepare n.setup (told h m) n.id n.past place.config.number w.view place.height d st.node) ground fits)
       (sent_all (f ∷ told h m) n.id place.config.members (message_of.Commit commit) (record { ground = ground; spelled = fits }))
-      (all_append (IsBackedStatement (f ∷ told h m) n.id) m.signed (commit_text place.config.number w.view place.height d ∷ []) (signed_older su i h m st f)
-      (prepared_backed (f ∷ told h m) n.id place.config.number w.view place.height d here.config (view_fits place w.view here) number ground, tt))
+      (all_append (IsPreparedStatement (f ∷ told h m) n.id) m.signed (commit_text place.config.number w.view place.height d ∷ []) (signed_older su i h m st f) (
+        record {
+          config = place.config.number;
+          view = w.view;
+          number = place.height;
+          digest = d;
+          config_fits = here.config;
+          view_fits = view_fits place w.view here;
+          number_fits = number;
+          digest_fits = digest;
+          text = refl;
+          prepared = ground;
+        },
+        tt,
+      ))
 
   -- DELIVER
   deliver_stands : (m : Making PastNode) → MakingStands su i h m → (b : Block) (cert : Cert) → Allowed m.state.setup (told h m) (Delivered m.state.id b (proof_of.Bft cert)) → DeliveredFits b (proof_of.Bft cert)

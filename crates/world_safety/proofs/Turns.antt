@@ -76,7 +76,7 @@ module _ (su : Setup) (number : ℕ) where
         nodes = good.nodes;
         network = all_set (EntryIn su.byzantine w.told) w.network k (record e { came = true }) good.network (record { readable = is.readable; rests = is.rests; no_raft = is.no_raft; spelled = is.spelled });
         certified = good.certified;
-        backed = good.backed;
+        sealed = good.sealed;
       }
 
   letter_good : (k : ℕ) (e : Entry) (w : PastWorld) (o : Option (Node PastNode)) → GoodWorld su w → EntryIn su.byzantine w.told e → node_at e.to w.nodes ≡ o → GoodWorld su (after_letter k e w o)
@@ -147,7 +147,7 @@ module _ (su : Setup) (number : ℕ) where
             (record { setup = is.setup; id = is.id; correct = is.correct; stands = is.stands; pool = pool_spelled node.pool bytes fits is.pool; stored = is.stored; sealed = is.sealed }) w.nodes (nodes_apart su w good) good.nodes;
         network = good.network;
         certified = good.certified;
-        backed = good.backed;
+        sealed = good.sealed;
       }
 
   -- A COMMAND
