@@ -30,7 +30,7 @@ use Rattle.world_safety.proofs.Fitting.{PlaceFits}
 use Rattle.world_safety.proofs.Lists.{all_append, all_map}
 use Rattle.world_safety.proofs.Placing.{place_fits}
 use Rattle.world_safety.proofs.Proposing.{IsHarmless, IsReadProposal, commit_harmless, prepare_harmless, proposal_harmless}
-use Rattle.world_safety.proofs.Reading.{EntryIn, bytes_spelled, lied_in}
+use Rattle.world_safety.proofs.Reading.{EntryIn, IsLiar, bytes_spelled, lied_in}
 use Rattle.world_safety.proofs.Sealing.{facts_certified, node_sealed}
 use Rattle.world_safety.proofs.Worlds.{GoodWorld, IsSealIn, NodeIn, above, correct_in, correct_is}
 
@@ -52,13 +52,6 @@ any_stranger su w i good correct =
     let not_zero : (i == 0) ≡ false = false_from_ne_true (i == 0) (λ is. let same = eqb-true i 0 is in let here = subst (λ i. is_in i (correct_in su) ≡ true) same correct in cc) in
     let honest = (correct_is su i correct).honest in
     ap₂ (λ a b. a || b) not_zero (ap (λ b. is_in i su.config.members && b) honest ∙ and-false (is_in i su.config.members))
-
--- WHO LIES: a Byzantine member, to another member
-
-pub record IsLiar (su : Setup) (from to : ℕ) : Type 0 where
-  pub from_member : is_in from su.config.members ≡ true
-  pub to_member : is_in to su.config.members ≡ true
-  pub byzantine : is_in from su.byzantine ≡ true
 
 pub liar_signs : (su : Setup) (from to : ℕ) → IsLiar su from to → signs_anything su.config.members su.byzantine from ≡ true
 liar_signs su from to liar = or_right _ _ (and_from _ _ liar.from_member liar.byzantine)
@@ -106,8 +99,8 @@ lie_good su w from to bytes good liar harmless =
       members = good.members;
       actors = good.actors;
       nodes = good.nodes;
-      network = all_append (EntryIn su.byzantine w.told) w.network (record { from = from; to = to; bytes = bytes; came = false } ∷ []) good.network
-          (lied_in su.byzantine w.told from to bytes liar.byzantine harmless.no_raft harmless.spelled, tt);
+      network = all_append (EntryIn su w.told) w.network (record { from = from; to = to; bytes = bytes; came = false } ∷ []) good.network
+          (lied_in su w.told from to bytes liar harmless.no_raft harmless.spelled, tt);
       certified = good.certified;
       sealed = good.sealed;
     }

@@ -14,9 +14,9 @@ use Rattle.world_model.specs.Liars.{is_raft_if_any, longest, proposed_in, with_s
 use Rattle.world_model.specs.Says.{ordinary}
 use Rattle.world_model.specs.Worlds.{Entry, Node, entry}
 use Rattle.world_safety.specs.Within.{PastWorld, after_lie, after_propose, after_vote_if, after_vote_on, where_liar, where_signer}
-use Rattle.world_safety.proofs.Lying.{IsLiar, bytes_harmless, lie_good, liar_signs, ordinary_spelled, propose_good, signed_good, vote_good}
+use Rattle.world_safety.proofs.Lying.{bytes_harmless, lie_good, liar_signs, ordinary_spelled, propose_good, signed_good, vote_good}
 use Rattle.world_safety.proofs.Proposing.{proposed_read}
-use Rattle.world_safety.proofs.Reading.{each_byte}
+use Rattle.world_safety.proofs.Reading.{IsLiar, each_byte}
 use Rattle.world_safety.proofs.Worlds.{GoodWorld, entry_in}
 
 module _ (su : Setup) (w : PastWorld) where

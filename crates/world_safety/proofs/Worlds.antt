@@ -68,7 +68,7 @@ pub record GoodWorld (su : Setup) (w : World PastNode History) : Type 0 where
   pub members : ids_of w.nodes ≡ correct_in su
   pub actors : AllByRecursion (λ f. is_in (actor f) (correct_in su) ≡ true) w.told
   pub nodes : AllByRecursion (NodeIn su w.told w.seals) w.nodes
-  pub network : AllByRecursion (EntryIn su.byzantine w.told) w.network
+  pub network : AllByRecursion (EntryIn su w.told) w.network
   pub certified : AllByRecursion (IsCertifiedFact (is_sealed w.seals) su.config) w.told
   pub sealed : AllByRecursion (IsSealIn su w.told) w.seals
 
@@ -176,10 +176,11 @@ event_keeps su w node event good is brought =
     let run : IsRun su g = subst (λ su. IsRun su g) st.setup st.run in
     let mine : NodeStands su g i m.state.past = subst (λ i. NodeStands su g i m.state.past) st.id (subst (λ su. NodeStands su g m.state.id m.state.past) st.setup st.node) in
     let acts : AllByRecursion (λ f. (actor f == i) ≡ true) (reverse m.facts) = all_reverse (λ f. (actor f == i) ≡ true) m.facts (subst (λ i. AllByRecursion (λ f. (actor f == i) ≡ true) m.facts) st.id st.actors) in
-    let posts : AllByRecursion (IsGoodPost g i) m.posts = subst (λ i. AllByRecursion (IsGoodPost g i) m.posts) st.id st.posts in
+    let members = su.config.members in
+    let posts : AllByRecursion (IsGoodPost members g i) m.posts = subst (λ i. AllByRecursion (IsGoodPost members g i) m.posts) st.id (subst (λ (su : Setup). AllByRecursion (IsGoodPost su.config.members g m.state.id) m.posts) st.setup st.posts) in
     let new = node_after node m in
-    let sent = all_mapped (EntryIn su.byzantine g) (λ (post : Post). record { from = i; to = post.to; bytes = message_text post.message; came = false }) m.posts
-    (all_map (IsGoodPost g i) (λ (post : Post). EntryIn su.byzantine g (record { from = i; to = post.to; bytes = message_text post.message; came = false })) (λ post good. posted_in su.byzantine g i post.to post.message good) m.posts posts) in
+    let sent = all_mapped (EntryIn su g) (λ (post : Post). record { from = i; to = post.to; bytes = message_text post.message; came = false }) m.posts
+    (all_map (IsGoodPost members g i) (λ (post : Post). EntryIn su g (record { from = i; to = post.to; bytes = message_text post.message; came = false })) (λ post good. posted_in su g i post.to post.message correct.member good) m.posts posts) in
     let signed : AllByRecursion (IsPreparedStatement g i) m.signed = subst (λ i. AllByRecursion (IsPreparedStatement g i) m.signed) st.id st.signed in
     let sealed_by = all_mapped (IsSealIn su g) (λ (statement : List ℕ). record { signer = i; statement = statement }) m.signed
     (all_map (IsPreparedStatement g i) (λ (statement : List ℕ). IsSealIn su g (record { signer = i; statement = statement })) (λ statement prepared. inr (is.correct, prepared)) m.signed signed) in
@@ -216,7 +217,7 @@ event_keeps su w node event good is brought =
             sealed = sealed.node;
           })
           w.nodes (nodes_apart su w good) good.nodes;
-      network = all_append (EntryIn su.byzantine g) w.network (sent_by i m.posts) (all_map (EntryIn su.byzantine h) (EntryIn su.byzantine g) (entry_over su.byzantine h (reverse m.facts)) w.network good.network) sent;
+      network = all_append (EntryIn su g) w.network (sent_by i m.posts) (all_map (EntryIn su h) (EntryIn su g) (entry_over su h (reverse m.facts)) w.network good.network) sent;
       certified = all_append (IsCertifiedFact (is_sealed box) su.config) (reverse m.facts) h (all_reverse (IsCertifiedFact (is_sealed box) su.config) m.facts sealed.facts)
           (facts_certified (is_sealed w.seals) (is_sealed box) grown su.config h good.certified);
       sealed = all_append (IsSealIn su g) w.seals (seals_of i m.signed)
@@ -243,6 +244,6 @@ all_set P [] k e all good = tt
 all_set P (x ∷ xs) zero e all good = (good, all.1)
 all_set P (x ∷ xs) (suc k) e all good = (all.0, all_set P xs k e all.1 good)
 
-pub entry_in : (su : Setup) (k : ℕ) (e : Entry) (w : World PastNode History) → GoodWorld su w → entry k w ≡ Some e → EntryIn su.byzantine w.told e
+pub entry_in : (su : Setup) (k : ℕ) (e : Entry) (w : World PastNode History) → GoodWorld su w → entry k w ≡ Some e → EntryIn su w.told e
 entry_in su zero e w good is = absurd (cc)
-entry_in su (suc k) e w good is = found_entry (EntryIn su.byzantine w.told) w.network k e good.network is
+entry_in su (suc k) e w good is = found_entry (EntryIn su w.told) w.network k e good.network is

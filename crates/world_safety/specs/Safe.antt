@@ -55,6 +55,10 @@ IsReadable byzantine e = is_in e.from byzantine ≡ false → IsSome (message_in
 abbrev pub RestsIn : List ℕ → History → Entry → Type 0
 RestsIn byzantine h e = (m : Message) → message_in e.bytes ≡ Some m → IsTrue (is_in e.from byzantine || has_ground h e.from m)
 
+-- members send to members
+abbrev pub IsAmong : List ℕ → Entry → Type 0
+IsAmong members e = IsTrue (is_in e.from members) × IsTrue (is_in e.to members)
+
 -- nobody made up a message of Raft
 abbrev pub IsNoRaftMessage : Entry → Type 0
 IsNoRaftMessage e = is_raft_if_any (message_in e.bytes) ≡ false
@@ -89,7 +93,7 @@ IsAllowedSeal members byzantine correct h seal =
     IsTrue (signs_anything members byzantine seal.signer) ⊎ (IsTrue (is_in seal.signer correct) × IsPreparedStatement h seal.signer seal.statement)
 
 -- What the nodes did, and nobody else did anything, is a run by the rules, in the order in which they did it. The nodes are
--- the correct members; no more are Byzantine than the bound of the configuration. The bytes of whatever a node sent spell
+-- the correct members; no more are Byzantine than the bound of the configuration. Members send to members. The bytes of whatever a node sent spell
 -- a message, which rests on a fact of its sender; a Byzantine member sent any bytes but messages of Raft. A node signs only
 -- what it prepared, and nobody else signs but the administrator and Byzantine members. So the ledgers agree, where no two texts collide.
 pub record IsSafeWorld (w : World PastNode History) : Type 0 where
@@ -101,6 +105,7 @@ pub record IsSafeWorld (w : World PastNode History) : Type 0 where
   pub run : IsRun (setup_of w) w.told
   pub readable : AllByRecursion (IsReadable w.byzantine) w.network
   pub resting : AllByRecursion (RestsIn w.byzantine w.told) w.network
+  pub among : AllByRecursion (IsAmong w.config.members) w.network
   pub no_raft : AllByRecursion IsNoRaftMessage w.network
   pub sealed : AllByRecursion (IsAllowedSeal w.config.members w.byzantine (ids_of w.nodes) w.told) w.seals
   pub backed : AreBacked (ids_of w.nodes) w.told w.seals
