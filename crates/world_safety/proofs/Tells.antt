@@ -18,7 +18,7 @@ use Rattle.world_model.specs.Pools.{answer}
 use Rattle.world_model.specs.Texts.{deliver_text, fact_text, flush_text, limit_text, show_text}
 use Rattle.world_model.specs.Turns.{counted, deliver_turn, deliveries, delivery, delivery_to, event_turn, flush_turn, flushes, goes_on, most_entries, refuses, says, show_turn, shows, submit_turn, then_on, tick_at, ticks}
 use Rattle.world_model.specs.Worlds.{Entry, Node, entry, is_waiting, letter_from, making, marked, node_at, tick_of}
-use Rattle.world_safety.specs.Telling.{EveryTextIsTold, IsShownIn, IsStoredIn, IsTold, NoBlock, NoCore, NoEntry, NoWorld, Part, Refusal, Reply, SecondGenesis, UnknownNode, blocks_text, end_text, events_of, facts_of, histories_after, last_of, part_text, parts_text, reply_text, told_in}
+use Rattle.world_safety.specs.Telling.{EveryTextIsTold, IsSo, IsTold, NoBlock, NoCore, NoEntry, NoWorld, Part, Refusal, Reply, SecondGenesis, UnknownNode, blocks_text, end_text, events_of, facts_of, histories_after, last_of, part_text, parts_text, reply_text, told_in}
 use Rattle.world_safety.specs.Telling as it
 use Rattle.world_safety.specs.Within.{PastWorld, after_delivery, after_event, after_letter, after_submit, after_tick, in_deliver, in_deliveries, in_flush, in_flushes, in_ticks}
 
@@ -55,6 +55,14 @@ found_test test (x ∷ xs) node is = go (test x) refl is (found_test test xs nod
     go true passes at rest = let found : x ≡ node = cc in subst (λ node. test node ≡ true) found passes
     go false passes at rest = rest at
 
+pub last_pushed : {X : Type 0} (xs : List X) (x : X) → slice_get (xs ++ x ∷ []) (length xs) ≡ Some x
+last_pushed [] x = refl
+last_pushed (y ∷ xs) x = last_pushed xs x
+
+pub length_pushed : {X : Type 0} (xs : List X) (x : X) → length (xs ++ x ∷ []) ≡ suc (length xs)
+length_pushed [] x = refl
+length_pushed (y ∷ xs) x = ap (λ n. suc n) (length_pushed xs x)
+
 -- A TURN
 
 -- the turn leads to the last of its worlds, or ends the run before the script's end
@@ -62,33 +70,12 @@ abbrev pub GoesTo : {W : Type 0} → Result W Ending → W → Type 0
 GoesTo (Ok next) last = next ≡ last
 GoesTo (Err ending) last = (o : Option PastWorld) → end_text ending o ≡ []
 
--- what is shown stands in a ledger of this world
-abbrev pub IsShownAt : Option PastWorld → Reply → Type 0
-IsShownAt o (it.Shown id b proof) = IsStoredIn o id b proof
-IsShownAt o _ = Unit {0}
-
-pub shown_in : (P : Option PastWorld → Type 0) (o : Option PastWorld) (reply : Reply) → P o → IsShownAt o reply → IsShownIn P reply
-shown_in P o (it.Shown id b proof) among shown = (o, among, shown)
-shown_in P o it.Silent among shown = tt
-shown_in P o it.Begun among shown = tt
-shown_in P o (it.Answered word node answer) among shown = tt
-shown_in P o (it.Ticked node) among shown = tt
-shown_in P o (it.Came count) among shown = tt
-shown_in P o (it.Flushed count) among shown = tt
-shown_in P o (it.Lied word sent) among shown = tt
-shown_in P o (it.Sealed place) among shown = tt
-shown_in P o (it.Refused refusal) among shown = tt
-shown_in P o (it.Limited limit) among shown = tt
-shown_in P o (it.Faulty config count bound) among shown = tt
-shown_in P o (it.Malformed place) among shown = tt
-shown_in P o it.NotBuilt among shown = tt
-
--- the worlds within a turn have the histories of its events, and it prints their block lines and its reply
+-- the worlds within a turn have the histories of its events, and it prints their block lines and its reply, which is so
 pub record Tells {W : Type 0} (seen : W → Option PastWorld) (number : ℕ) (w : W) (within : List W) (turn : Turn W) : Type 0 where
   pub events : List (List Fact)
   pub reply : Reply
   pub histories : map (λ w. told_in (seen w)) within ≡ histories_after (told_in (seen w)) events
-  pub shown : IsShownAt (seen (last_of w within)) reply
+  pub so : IsSo (seen (last_of w within)) reply
   pub printed : turn.printed ≡ blocks_text number events ++ reply_text number reply
   pub next : GoesTo turn.next (last_of w within)
 
@@ -97,8 +84,8 @@ same o = o
 
 module _ (number : ℕ) where
   -- the reply alone
-  pub replies : {W : Type 0} (seen : W → Option PastWorld) (w : W) (turn : Turn W) (reply : Reply) → turn.printed ≡ reply_text number reply → GoesTo turn.next w → IsShownAt (seen w) reply → Tells seen number w [] turn
-  replies seen w turn reply printed next shown = record { events = []; reply = reply; histories = refl; shown = shown; printed = printed; next = next }
+  pub replies : {W : Type 0} (seen : W → Option PastWorld) (w : W) (turn : Turn W) (reply : Reply) → turn.printed ≡ reply_text number reply → GoesTo turn.next w → IsSo (seen w) reply → Tells seen number w [] turn
+  replies seen w turn reply printed next so = record { events = []; reply = reply; histories = refl; so = so; printed = printed; next = next }
 
   -- AN EVENT prints the block lines of its facts, and ends the run where the network is past its limit
   abbrev pub Ends : PastWorld → List Fact → List ℕ → Result PastWorld Ending → Type 0
@@ -149,7 +136,7 @@ module _ (number : ℕ) where
       record {
         events = facts ∷ later.events;
         reply = later.reply;
-        shown = subst (λ (v : PastWorld). IsShownAt (Some (last_of v (within next))) later.reply) ends.0 later.shown;
+        so = subst (λ (v : PastWorld). IsSo (Some (last_of v (within next))) later.reply) ends.0 later.so;
         histories = ap₂ (λ h hs. h ∷ hs) grown (later.histories ∙ ap (λ (h : History). histories_after h later.events) (ap (λ (v : PastWorld). v.told) ends.0 ∙ grown));
         printed = ap₂ (λ (a b : List ℕ). a ++ b) ends.1 later.printed ∙ sym (append_assoc front (blocks_text number later.events) (reply_text number later.reply));
         next = subst (λ (v : PastWorld). GoesTo (rest next).next (last_of v (within next))) ends.0 later.next;
@@ -159,7 +146,7 @@ module _ (number : ℕ) where
       record {
         events = facts ∷ [];
         reply = it.Limited most_entries;
-        shown = tt;
+        so = tt;
         histories = ap (λ h. h ∷ []) grown;
         printed = ends.1 ∙ ap (λ (text : List ℕ). text ++ limit_text number most_entries) (sym (append-nil front));
         next = λ o. ap (λ e. end_text e o) ends.0;
@@ -228,7 +215,7 @@ module _ (number : ℕ) where
 
   -- SUBMIT and RAW
   pub submit_tells : (word : List ℕ) (w : PastWorld) (node : Node PastNode) (bytes : List ℕ) → Tells Some number w (after_submit w node bytes ∷ []) (submit_turn number word w node bytes)
-  submit_tells word w node bytes = record { events = [] ∷ []; reply = it.Answered word node.id (answer node.pool bytes); histories = refl; shown = tt; printed = refl; next = refl }
+  submit_tells word w node bytes = record { events = [] ∷ []; reply = it.Answered word node.id (answer node.pool bytes); histories = refl; so = tt; printed = refl; next = refl }
 
   -- SHOW
   pub show_tells : (w : PastWorld) (node : Node PastNode) (block : ℕ) → node_at node.id w.nodes ≡ Some node → Tells Some number w [] (show_turn number w node block)
