@@ -4,6 +4,7 @@
 ghost use Rattle.world_safety.specs.Certified.{AllWorldsAreCertified};
 ghost use Rattle.world_safety.specs.Safe.{EveryWorldIsSafe};
 ghost use Rattle.world_safety.specs.Telling.{AllWorldsAreSafe, EveryTextIsTold};
+ghost use Rattle.world_safety.specs.TooMany.{EndsOnlyWhereTooMany, EndsWhereTooMany};
 ghost use Rattle.world_safety.specs.Within.{WorldsAreAmongAll};
 
 /// In every world of every script what the nodes did is a run by the rules. The nodes are the members that aren't
@@ -25,4 +26,14 @@ pub fn every_world_is_a_run()
     ensures among { WorldsAreAmongAll }
     ensures text { EveryTextIsTold }
     ensures certified { AllWorldsAreCertified }
+{}
+
+/// The run of a script ends because too many members are Byzantine exactly where its first genesis has more Byzantine
+/// members than the bound of their number. That line stands within the limits on lines; each line before it is within its
+/// limit too, and means nothing or a command other than a genesis. The ending names the line, configuration 0, how many of the
+/// members are Byzantine, and the bound. A law about the model; it does nothing.
+#[tactic(auto, using(crate::proofs::TooMany::ends_only_where_too_many))]
+pub fn ends_too_many()
+    ensures only_there { EndsOnlyWhereTooMany }
+    ensures there { EndsWhereTooMany }
 {}
