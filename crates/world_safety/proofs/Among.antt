@@ -12,11 +12,11 @@ use Rattle.world_safety.specs.Telling.{last_of}
 use Rattle.world_safety.specs.Within.{PastWorld, WorldsAreAmongAll, all_worlds_of, worlds_in_line, worlds_in_lines}
 use Rattle.world_safety.proofs.Lists.{all_last, all_parts}
 use Rattle.world_safety.proofs.Telling.{line_tells}
-use Rattle.world_safety.proofs.Tells.{GoesTo}
+use Rattle.world_safety.proofs.Tells.{GoesTo, IsEarly}
 
 -- what holds of all worlds holds of those between the lines
 module _ (P : Option PastWorld → Type 0) where
-  behind : (o : Option PastWorld) (here : List (Option PastWorld)) (r : Result (Option PastWorld) Ending) (within between : Option PastWorld → List (Option PastWorld)) → P o → GoesTo r (last_of o here)
+  behind : (o : Option PastWorld) (here : List (Option PastWorld)) (r : Result (Option PastWorld) Ending) (within between : Option PastWorld → List (Option PastWorld)) → P o → GoesTo IsEarly r (last_of o here)
       → AllByRecursion P (here ++ worlds_after r within) → ((next : Option PastWorld) → P next → AllByRecursion P (within next) → AllByRecursion P (between next)) → AllByRecursion P (worlds_after r between)
   behind o here (Ok next) within between holds to all more =
       let parts = all_parts P here (within next) all in

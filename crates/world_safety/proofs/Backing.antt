@@ -1,5 +1,5 @@
 -- Signatures on commit statements rest on preparations.
-use Rattle.std.proofs.Common.{◌≡◌, ℕ, zero, suc, true, List, [], ◌∷◌, ◌++◌, length, refl, sym, subst, ◌∙◌, append_assoc, arith}
+use Rattle.std.proofs.Common.{◌≡◌, ℕ, zero, suc, true, false, List, [], ◌∷◌, ◌++◌, length, refl, sym, subst, ◌∙◌, append_assoc, inl, inr, arith}
 use Rattle.std.specs.Prelude.{◌==◌, slice_get}
 use Rattle.std.specs.Int.{w8, w64, to_be_bytes, from_be_bytes}
 use Rattle.std.specs.List.{AllByRecursion}
@@ -14,7 +14,7 @@ use Rattle.safety_model.proofs.FactTests.{bytes_same}
 use Rattle.signer_edge.specs.Seals.{is_seal, is_sealed}
 use Rattle.signer_edge.specs.Statements.{commit_text}
 use Rattle.signer_edge.specs.declared.seals.Seal.{Seal}
-use Rattle.world_safety.specs.Safe.{AreBacked}
+use Rattle.world_safety.specs.Safe.{AreBacked, IsAllowedSeal, IsPreparedStatement, signs_anything}
 
 -- STATEMENTS
 
@@ -55,18 +55,31 @@ commit_same e v s d e' v' s' d' le lv ls le' lv' ls' same =
 abbrev pub IsBackedStatement : History → ℕ → List ℕ → Type 0
 IsBackedStatement h i statement = (e v s : ℕ) (d : List ℕ) → IsNumber e → IsNumber v → IsNumber s → statement ≡ commit_text e v s d → has (is_prepared i e v s d) h ≡ true
 
-pub prepared_backed : (h : History) (i e v s : ℕ) (d : List ℕ) → IsNumber e → IsNumber v → IsNumber s → has (is_prepared i e v s d) h ≡ true → IsBackedStatement h i (commit_text e v s d)
-prepared_backed h i e v s d le lv ls is e' v' s' d' le' lv' ls' at =
-    let same = commit_same e v s d e' v' s' d' le lv ls le' lv' ls' at in
-    let a = subst (λ e. has (is_prepared i e v s d) h ≡ true) same.config is in
-    let b = subst (λ v. has (is_prepared i e' v s d) h ≡ true) same.view a in
-    let c = subst (λ s. has (is_prepared i e' v' s d) h ≡ true) same.number b in
-    subst (λ d. has (is_prepared i e' v' s' d) h ≡ true) same.digest c
+pub prepared_backed : (h : History) (i : ℕ) (statement : List ℕ) → IsPreparedStatement h i statement → IsBackedStatement h i statement
+prepared_backed h i statement is e v s d le lv ls at =
+    let same = commit_same is.config is.view is.number is.digest e v s d is.config_fits is.view_fits is.number_fits le lv ls (sym is.text ∙ at) in
+    let a = subst (λ e. has (is_prepared i e is.view is.number is.digest) h ≡ true) same.config is.prepared in
+    let b = subst (λ v. has (is_prepared i e v is.number is.digest) h ≡ true) same.view a in
+    let c = subst (λ s. has (is_prepared i e v s is.digest) h ≡ true) same.number b in
+    subst (λ d. has (is_prepared i e v s d) h ≡ true) same.digest c
 
-pub statement_more : (h : History) (f : Fact) (i : ℕ) (statement : List ℕ) → IsBackedStatement h i statement → IsBackedStatement (f ∷ h) i statement
-statement_more h f i statement is e v s d le lv ls at = or_right _ _ (is e v s d le lv ls at)
+-- facts are only added
+pub statement_more : (h : History) (f : Fact) (i : ℕ) (statement : List ℕ) → IsPreparedStatement h i statement → IsPreparedStatement (f ∷ h) i statement
+statement_more h f i statement is =
+    record {
+      config = is.config;
+      view = is.view;
+      number = is.number;
+      digest = is.digest;
+      config_fits = is.config_fits;
+      view_fits = is.view_fits;
+      number_fits = is.number_fits;
+      digest_fits = is.digest_fits;
+      text = is.text;
+      prepared = or_right _ _ is.prepared;
+    }
 
-statement_over : (h : History) (fs : List Fact) (i : ℕ) (statement : List ℕ) → IsBackedStatement h i statement → IsBackedStatement (fs ++ h) i statement
+statement_over : (h : History) (fs : List Fact) (i : ℕ) (statement : List ℕ) → IsPreparedStatement h i statement → IsPreparedStatement (fs ++ h) i statement
 statement_over h [] i statement is = is
 statement_over h (f ∷ fs) i statement is = statement_more (fs ++ h) f i statement (statement_over h fs i statement is)
 
@@ -76,8 +89,15 @@ statement_over h (f ∷ fs) i statement is = statement_more (fs ++ h) f i statem
 abbrev pub IsBackedSeal : List ℕ → History → Seal → Type 0
 IsBackedSeal correct h seal = is_in seal.signer correct ≡ true → IsBackedStatement h seal.signer seal.statement
 
-pub seal_over : (correct : List ℕ) (h : History) (fs : List Fact) (seal : Seal) → IsBackedSeal correct h seal → IsBackedSeal correct (fs ++ h) seal
-seal_over correct h fs seal is among = statement_over h fs seal.signer seal.statement (is among)
+-- so it is where nobody who signs anything is one of them
+pub seal_backed : (members byzantine correct : List ℕ) (h : History) (seal : Seal) → (is_in seal.signer correct ≡ true → signs_anything members byzantine seal.signer ≡ false)
+    → IsAllowedSeal members byzantine correct h seal → IsBackedSeal correct h seal
+seal_backed members byzantine correct h seal apart (inl any) among = let not_any = apart among in absurd (cc)
+seal_backed members byzantine correct h seal apart (inr signed) among = prepared_backed h seal.signer seal.statement signed.1
+
+pub seal_over : (members byzantine correct : List ℕ) (h : History) (fs : List Fact) (seal : Seal) → IsAllowedSeal members byzantine correct h seal → IsAllowedSeal members byzantine correct (fs ++ h) seal
+seal_over members byzantine correct h fs seal (inl any) = inl any
+seal_over members byzantine correct h fs seal (inr signed) = inr (signed.0, statement_over h fs seal.signer seal.statement signed.1)
 
 -- what is accepted is backed
 accepted_backed : (correct : List ℕ) (h : History) (seals : List Seal) (k i : ℕ) (statement : List ℕ) → AllByRecursion (IsBackedSeal correct h) seals → is_in i correct ≡ true

@@ -2,7 +2,7 @@
 use Rattle.std.proofs.Common.{◌≡◌, ℕ, ◌≤◌, Bool, true, false, List, [], ◌∷◌, length, map, cond, refl, ap, Option, Some, None, arith}
 use Rattle.std.specs.Prelude.{nat_lt}
 use Rattle.std.specs.List.{AllByRecursion}
-use Rattle.std.proofs.lemmas.Bool.{eq-eqb, ltb-false, or_left, or_right}
+use Rattle.std.proofs.lemmas.Bool.{ltb-false}
 use Rattle.std.proofs.lemmas.List.Elements.{All-nil}
 use Rattle.ord_types.specs.Grammar.{HasRequestSpelling}
 use Rattle.ord_types.specs.Members.{fault_bound, how_many_in, is_in}
@@ -16,6 +16,7 @@ use Rattle.world_model.specs.Histories.{past_setting}
 use Rattle.world_model.specs.Turns.{first_config, first_node, first_world}
 use Rattle.world_model.specs.Worlds.{Node, World}
 use Rattle.world_safety.specs.Safe.{ids_of}
+use Rattle.world_safety.proofs.Ids.{all_members}
 use Rattle.world_safety.proofs.Lists.{all_map, all_mapped}
 use Rattle.script.proofs.IdLemmas.{ids_spelled}
 use Rattle.world_safety.proofs.Nodes.{opened}
@@ -25,10 +26,6 @@ use Rattle.world_safety.specs.Within.{worlds_in_turn}
 same_ids : (c : Config) (byzantine ids : List ℕ) → ids_of (map (first_node past_setting c byzantine) ids) ≡ ids
 same_ids c byzantine [] = refl
 same_ids c byzantine (id ∷ ids) = ap (λ more. id ∷ more) (same_ids c byzantine ids)
-
-members_in : (ids members : List ℕ) → ((id : ℕ) → is_in id ids ≡ true → is_in id members ≡ true) → AllByRecursion (λ id. is_in id members ≡ true) ids
-members_in [] members within = tt
-members_in (id ∷ ids) members within = (within id (or_left _ _ (eq-eqb id id refl)), members_in ids members (λ other is. within other (or_right _ _ is)))
 
 pub first_good : (members byzantine : List ℕ) → AreIds members → how_many_in byzantine members ≤ fault_bound (length members)
     → GoodWorld (setup_on (first_config members) byzantine) (first_world past_setting (first_config members) byzantine)
@@ -46,10 +43,10 @@ first_good members byzantine are few =
       members = same_ids c byzantine ids;
       actors = tt;
       nodes = all_mapped (NodeIn su [] []) node ids
-          (all_map (λ id. is_in id ids ≡ true) (λ id. NodeIn su [] [] (node id)) (λ id is. record { setup = refl; id = refl; correct = is; stands = opened su id; pool = All-nil HasRequestSpelling; stored = refl; sealed = record { config = refl; letters = tt } }) ids (members_in ids ids (λ id is. is)));
+          (all_map (λ id. is_in id ids ≡ true) (λ id. NodeIn su [] [] (node id)) (λ id is. record { setup = refl; id = refl; correct = is; stands = opened su id; pool = All-nil HasRequestSpelling; stored = refl; sealed = record { config = refl; letters = tt } }) ids (all_members ids));
       network = tt;
       certified = tt;
-      backed = tt;
+      sealed = tt;
     }
 
 -- a good world of some setup, where there is a world

@@ -2,7 +2,7 @@
 use Rattle.std.proofs.Common.{◌≡◌, ℕ, suc, ◌+◌, ◌<◌, ◌≤◌, ◌^◌, true, List, [], ◌∷◌, map, length, refl, sym, subst, inl, inr, Option, Some, None, arith}
 use Rattle.std.specs.Prelude.{◌==◌, filter_map}
 use Rattle.std.specs.List.{AllByRecursion, cons_option}
-use Rattle.std.proofs.lemmas.Bool.{eqb-true, or_cases}
+use Rattle.std.proofs.lemmas.Bool.{eq-eqb, eqb-true, or_cases, or_left, or_right}
 use Rattle.std.proofs.lemmas.List.{length-map}
 use Rattle.ord_types.specs.Grammar.{AreSigs, Ascend, HasIdsSpelling, HasSigSpelling, IsWord}
 use Rattle.ord_types.specs.Members.{is_in}
@@ -70,3 +70,11 @@ module _ (f : ℕ → Option Sig) (each : (member : ℕ) (sig : Sig) → f membe
           words = signers_words 1 sigs up;
         };
       }
+
+-- each id of a list is in it
+members_in : (ids members : List ℕ) → ((id : ℕ) → is_in id ids ≡ true → is_in id members ≡ true) → AllByRecursion (λ id. is_in id members ≡ true) ids
+members_in [] members within = tt
+members_in (id ∷ ids) members within = (within id (or_left _ _ (eq-eqb id id refl)), members_in ids members (λ other is. within other (or_right _ _ is)))
+
+pub all_members : (ids : List ℕ) → AllByRecursion (λ id. is_in id ids ≡ true) ids
+all_members ids = members_in ids ids (λ id is. is)

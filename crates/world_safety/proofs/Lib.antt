@@ -24,6 +24,7 @@ pub mod Safety
 pub mod Tells
 pub mod LyingTells
 pub mod Telling
+pub mod TooMany
 pub mod Turns
 pub mod Among
 pub mod Within

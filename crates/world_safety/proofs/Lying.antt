@@ -1,8 +1,9 @@
 -- What Byzantine members do keeps a good world.
-use Rattle.std.proofs.Common.{◌≡◌, ℕ, Bool, true, false, List, [], ◌∷◌, ◌++◌, length, cond, refl, sym, subst, ap, Option, Some, None, arith}
+use Rattle.std.proofs.Common.{◌≡◌, ℕ, Bool, true, false, List, [], ◌∷◌, ◌++◌, length, cond, refl, sym, subst, ap, ap₂, ◌∙◌, ◌&&◌, ◌||◌, inl, Option, Some, None, arith}
 use Rattle.std.specs.Prelude.{◌==◌, nat_lt}
 use Rattle.std.specs.List.{AllByRecursion}
-use Rattle.std.proofs.lemmas.Bool.{false_from_ne_true}
+use Rattle.std.proofs.Math.Bool.{and-false}
+use Rattle.std.proofs.lemmas.Bool.{and_from, eqb-true, false_from_ne_true, or_right}
 use Rattle.ord_types.specs.Grammar.{HasRequestSpelling, IsNumber, IsWord}
 use Rattle.ord_types.specs.Members.{is_in}
 use Rattle.ord_types.proofs.Laws.{IsBytes}
@@ -22,21 +23,18 @@ use Rattle.node_model.specs.Past.{facts_of}
 use Rattle.world_model.specs.Liars.{commit_for, is_raft_if_any, longer, longest, prepare_for, proposal_of, sig_at, statement_for, with_sent, with_signed}
 use Rattle.world_model.specs.Turns.{ordinary}
 use Rattle.world_model.specs.Worlds.{Node, World, seals_of}
+use Rattle.world_safety.specs.Safe.{signs_anything}
 use Rattle.world_safety.specs.Within.{after_vote}
-use Rattle.world_safety.proofs.Backing.{IsBackedSeal}
 use Rattle.world_safety.proofs.Delivering.{some_same}
 use Rattle.world_safety.proofs.Fitting.{PlaceFits}
 use Rattle.world_safety.proofs.Lists.{all_append, all_map}
 use Rattle.world_safety.proofs.Placing.{place_fits}
 use Rattle.world_safety.proofs.Proposing.{IsHarmless, IsReadProposal, commit_harmless, prepare_harmless, proposal_harmless}
-use Rattle.world_safety.proofs.Reading.{EntryIn, bytes_spelled, lied_in}
+use Rattle.world_safety.proofs.Reading.{EntryIn, IsLiar, bytes_spelled, lied_in}
 use Rattle.world_safety.proofs.Sealing.{facts_certified, node_sealed}
-use Rattle.world_safety.proofs.Worlds.{GoodWorld, NodeIn, above, correct_in, correct_is}
+use Rattle.world_safety.proofs.Worlds.{GoodWorld, IsSealIn, NodeIn, above, correct_in, correct_is}
 
 -- WHO IS NO CORRECT MEMBER: a Byzantine one, and id 0
-
-pub liar_stranger : (su : Setup) (i : ℕ) → is_in i su.byzantine ≡ true → is_in i (correct_in su) ≡ false
-liar_stranger su i liar = false_from_ne_true (is_in i (correct_in su)) (λ is. let honest = (correct_is su i is).honest in cc)
 
 outside : (x : ℕ) (xs : List ℕ) → AllByRecursion (λ y. (y == x) ≡ false) xs → is_in x xs ≡ false
 outside x [] all = refl
@@ -47,13 +45,21 @@ zero_stranger su w good =
     let none = outside 0 su.config.members (above 0 1 su.config.members (omega arith) good.bounded.members.ascending) in
     false_from_ne_true (is_in 0 (correct_in su)) (λ is. let member = (correct_is su 0 is).member in cc)
 
-pub liar_in : (su : Setup) (w : World PastNode History) (i : ℕ) → GoodWorld su w → is_in i w.byzantine ≡ true → is_in i su.byzantine ≡ true
-liar_in su w i good liar = subst (λ ids. is_in i ids ≡ true) (sym (ap (λ (su : Setup). su.byzantine) good.first)) liar
+-- so nobody who signs anything is one
+pub any_stranger : (su : Setup) (w : World PastNode History) (i : ℕ) → GoodWorld su w → is_in i (correct_in su) ≡ true → signs_anything su.config.members su.byzantine i ≡ false
+any_stranger su w i good correct =
+    let zero = zero_stranger su w good in
+    let not_zero : (i == 0) ≡ false = false_from_ne_true (i == 0) (λ is. let same = eqb-true i 0 is in let here = subst (λ i. is_in i (correct_in su) ≡ true) same correct in cc) in
+    let honest = (correct_is su i correct).honest in
+    ap₂ (λ a b. a || b) not_zero (ap (λ b. is_in i su.config.members && b) honest ∙ and-false (is_in i su.config.members))
+
+pub liar_signs : (su : Setup) (from to : ℕ) → IsLiar su from to → signs_anything su.config.members su.byzantine from ≡ true
+liar_signs su from to liar = or_right _ _ (and_from _ _ liar.from_member liar.byzantine)
 
 -- ONE MORE SEAL of such an id
 
-pub signed_good : (su : Setup) (w : World PastNode History) (id : ℕ) (statement : List ℕ) → GoodWorld su w → is_in id (correct_in su) ≡ false → GoodWorld su (with_signed w id statement)
-signed_good su w id statement good stranger =
+pub signed_good : (su : Setup) (w : World PastNode History) (id : ℕ) (statement : List ℕ) → GoodWorld su w → signs_anything su.config.members su.byzantine id ≡ true → GoodWorld su (with_signed w id statement)
+signed_good su w id statement good any =
     let more = seals_of id (statement ∷ []) in
     let box = w.seals ++ more in
     let grown = is_sealed-grown w.seals more in
@@ -77,12 +83,12 @@ signed_good su w id statement good stranger =
           }) w.nodes good.nodes;
       network = good.network;
       certified = facts_certified (is_sealed w.seals) (is_sealed box) grown su.config w.told good.certified;
-      backed = all_append (IsBackedSeal (correct_in su) w.told) w.seals more good.backed (λ among. absurd (cc), tt);
+      sealed = all_append (IsSealIn su w.told) w.seals more good.sealed (inl any, tt);
     }
 
 -- ONE MORE ENTRY of a Byzantine member
 
-pub lie_good : (su : Setup) (w : World PastNode History) (from to : ℕ) (bytes : List ℕ) → GoodWorld su w → is_in from w.byzantine ≡ true → IsHarmless bytes → GoodWorld su (with_sent w from to bytes)
+pub lie_good : (su : Setup) (w : World PastNode History) (from to : ℕ) (bytes : List ℕ) → GoodWorld su w → IsLiar su from to → IsHarmless bytes → GoodWorld su (with_sent w from to bytes)
 lie_good su w from to bytes good liar harmless =
     record {
       first = good.first;
@@ -93,10 +99,10 @@ lie_good su w from to bytes good liar harmless =
       members = good.members;
       actors = good.actors;
       nodes = good.nodes;
-      network = all_append (EntryIn su.byzantine w.told) w.network (record { from = from; to = to; bytes = bytes; came = false } ∷ []) good.network
-          (lied_in su.byzantine w.told from to bytes (liar_in su w from good liar) harmless.no_raft harmless.spelled, tt);
+      network = all_append (EntryIn su w.told) w.network (record { from = from; to = to; bytes = bytes; came = false } ∷ []) good.network
+          (lied_in su w.told from to bytes liar harmless.no_raft harmless.spelled, tt);
       certified = good.certified;
-      backed = good.backed;
+      sealed = good.sealed;
     }
 
 -- any bytes that spell no message of Raft
@@ -127,7 +133,7 @@ node_place su w node good is =
     let a : PlaceFits (place_of node.state.setup i g) v = subst (λ (s : Setup). PlaceFits (place_of s i g) v) (sym is.setup) fits in
     (v, subst (λ j. PlaceFits (place_of node.state.setup j g) v) (sym is.id) a)
 
-pub propose_good : (su : Setup) (w : World PastNode History) (from to v : ℕ) (r : Request) (node : Node PastNode) → GoodWorld su w → is_in from w.byzantine ≡ true
+pub propose_good : (su : Setup) (w : World PastNode History) (from to v : ℕ) (r : Request) (node : Node PastNode) → GoodWorld su w → IsLiar su from to
     → IsNumber v → HasRequestSpelling r → longest w.nodes ≡ Some node → GoodWorld su (with_sent w from to (message_text (proposal_of (past_place node.state) v r)))
 propose_good su w from to v r node good liar viewed small is =
     let place = node_place su w node good (longest_has (NodeIn su w.told w.seals) w.nodes node good.nodes is) in
@@ -142,11 +148,11 @@ ordinary_spelled from to v client serial payload formed =
 
 -- VOTE
 
-pub vote_good : (su : Setup) (w : World PastNode History) (from to : ℕ) (kind : VoteKind) (v : ℕ) (m : PrePrepare) → GoodWorld su w → is_in from w.byzantine ≡ true
+pub vote_good : (su : Setup) (w : World PastNode History) (from to : ℕ) (kind : VoteKind) (v : ℕ) (m : PrePrepare) → GoodWorld su w → IsLiar su from to
     → IsWord from → IsNumber v → IsReadProposal m → GoodWorld su (after_vote w from to kind v m)
 vote_good su w from to Prepare v m good liar word viewed is = lie_good su w from to (message_text (prepare_for m v)) good liar (prepare_harmless m v is viewed)
 vote_good su w from to Commit v m good liar word viewed is =
     let sig = sig_at from (length w.seals) in
-    let signed = signed_good su w from (statement_for m v) good (liar_stranger su from (liar_in su w from good liar)) in
+    let signed = signed_good su w from (statement_for m v) good (liar_signs su from to liar) in
     lie_good su (with_signed w from (statement_for m v)) from to (message_text (commit_for m v sig)) signed liar
     (commit_harmless m v sig is viewed (record { signer = word; size = omega arith }))

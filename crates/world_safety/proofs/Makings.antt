@@ -29,13 +29,15 @@ use Rattle.node_model.specs.Keeping.{PastNode, past_ways, place_of, view_of}
 use Rattle.node_model.specs.Steps.{Event, Keys, Making, Post, Tick, FromMember, accept_round, begins, commit_message, deliver_round, makes_accepted, makes_delivered, makes_prepared, next, own_rule, prepare_message, prepare_round, preprepare_message, propose_round, rounds, to_all, votes}
 use Rattle.world_safety.specs.Resting.{has_ground}
 use Rattle.world_safety.proofs.Standing.{Bounded}
-use Rattle.world_safety.proofs.Lists.{all_append, all_flat, all_map, all_mapped, all_of}
+use Rattle.world_safety.proofs.Lists.{all_append, all_flat, all_map, all_mapped, all_within}
+use Rattle.world_safety.proofs.Ids.{all_members}
 use Rattle.world_safety.proofs.Accepting.{acceptances_allowed, proposals_allowed}
 use Rattle.world_safety.proofs.Preparing.{due_is, preparations_allowed}
 use Rattle.world_safety.proofs.Delivering.{deliveries_allowed, delivery_is, delivery_spelled}
 use Rattle.world_safety.proofs.Fits.{DeliveredFits, FactFits, FitsAt}
 use Rattle.world_safety.proofs.Fitting.{PlaceFits, acceptance_fits, proposal_fits, view_fits}
-use Rattle.world_safety.proofs.Backing.{IsBackedStatement, prepared_backed, statement_more}
+use Rattle.world_safety.specs.Safe.{IsPreparedStatement}
+use Rattle.world_safety.proofs.Backing.{statement_more}
 use Rattle.world_safety.proofs.Placing.{IsBounded, genesis_first, place_fits}
 use Rattle.world_safety.proofs.Sending.{commit_fits, hash_fits, prepare_fits, preprepare_fits}
 use Rattle.world_safety.proofs.Nodes.{IsGoodEvent, NodeStands, did_accept, did_deliver, did_prepare, event_came, ground_more, signed_commit, stands, stands_last}
@@ -59,8 +61,10 @@ pub record IsGoodMessage (h : History) (i : ℕ) (message : Message) : Type 0 wh
   pub ground : has_ground h i message ≡ true
   pub spelled : HasMessageSpelling message
 
-abbrev pub IsGoodPost : History → ℕ → Post → Type 0
-IsGoodPost h i post = IsGoodMessage h i post.message
+-- and goes to one of the members
+pub record IsGoodPost (members : List ℕ) (h : History) (i : ℕ) (post : Post) : Type 0 where
+  pub message : IsGoodMessage h i post.message
+  pub to : is_in post.to members ≡ true
 
 -- a step of node i so far
 pub record MakingStands (su : Setup) (i : ℕ) (h : History) (m : Making PastNode) : Type 0 where
@@ -69,9 +73,9 @@ pub record MakingStands (su : Setup) (i : ℕ) (h : History) (m : Making PastNod
   pub run : IsRun m.state.setup (told h m)
   pub fit : AllByRecursion FactFits (told h m)
   pub node : NodeStands m.state.setup (told h m) m.state.id m.state.past
-  pub posts : AllByRecursion (IsGoodPost (told h m) m.state.id) m.posts
+  pub posts : AllByRecursion (IsGoodPost m.state.setup.config.members (told h m) m.state.id) m.posts
   pub actors : AllByRecursion (λ f. (actor f == m.state.id) ≡ true) m.facts
-  pub signed : AllByRecursion (IsBackedStatement (told h m) m.state.id) m.signed
+  pub signed : AllByRecursion (IsPreparedStatement (told h m) m.state.id) m.signed
 
 told_more : (h : History) (facts : List Fact) (f : Fact) → f ∷ (reverse facts ++ h) ≡ reverse (facts ++ f ∷ []) ++ h
 told_more h facts f = ap (λ (g : History). g ++ h) (sym (reverse-append facts (f ∷ [])))
@@ -79,13 +83,14 @@ told_more h facts f = ap (λ (g : History). g ++ h) (sym (reverse-append facts (
 -- one act: a fact, with messages, and what the node is after it
 after_fact : (su : Setup) (i : ℕ) (h : History) (m : Making PastNode) → MakingStands su i h m
     → (f : Fact) (past : Past) (posts : List Post) (signed : List (List ℕ)) → Allowed m.state.setup (told h m) f → (actor f == m.state.id) ≡ true → FactFits f
-    → NodeStands m.state.setup (f ∷ told h m) m.state.id past → AllByRecursion (IsGoodPost (f ∷ told h m) m.state.id) posts
-    → AllByRecursion (IsBackedStatement (f ∷ told h m) m.state.id) signed
+    → NodeStands m.state.setup (f ∷ told h m) m.state.id past → AllByRecursion (IsGoodPost m.state.setup.config.members (f ∷ told h m) m.state.id) posts
+    → AllByRecursion (IsPreparedStatement (f ∷ told h m) m.state.id) signed
     → MakingStands su i h (record { state = record { setup = m.state.setup; id = m.state.id; past = past }; facts = m.facts ++ f ∷ []; posts = m.posts ++ posts; signed = signed })
 after_fact su i h m st f past posts signed ok mine fits node good backed =
     let n = m.state in
     let is = told_more h m.facts f in
-    let older = all_map (IsGoodPost (told h m) n.id) (IsGoodPost (f ∷ told h m) n.id) (λ post p. record { ground = ground_more (told h m) f n.id post.message p.ground; spelled = p.spelled }) m.posts st.posts in
+    let all = n.setup.config.members in
+    let older = all_map (IsGoodPost all (told h m) n.id) (IsGoodPost all (f ∷ told h m) n.id) (λ post p. record { message = record { ground = ground_more (told h m) f n.id post.message p.message.ground; spelled = p.message.spelled }; to = p.to }) m.posts st.posts in
     let run : IsRun n.setup (f ∷ told h m) = (ok, st.run) in
     let fit : AllByRecursion FactFits (f ∷ told h m) = (fits, st.fit) in
     record {
@@ -94,22 +99,24 @@ after_fact su i h m st f past posts signed ok mine fits node good backed =
       run = subst (IsRun n.setup) is run;
       fit = subst (AllByRecursion FactFits) is fit;
       node = subst (λ (g : History). NodeStands n.setup g n.id past) is node;
-      posts = subst (λ (g : History). AllByRecursion (IsGoodPost g n.id) (m.posts ++ posts)) is (all_append (IsGoodPost (f ∷ told h m) n.id) m.posts posts older good);
+      posts = subst (λ (g : History). AllByRecursion (IsGoodPost all g n.id) (m.posts ++ posts)) is (all_append (IsGoodPost all (f ∷ told h m) n.id) m.posts posts older good);
       actors = all_append (λ f. (actor f == n.id) ≡ true) m.facts (f ∷ []) st.actors (mine, tt);
-      signed = subst (λ (g : History). AllByRecursion (IsBackedStatement g n.id) signed) is backed;
+      signed = subst (λ (g : History). AllByRecursion (IsPreparedStatement g n.id) signed) is backed;
     }
 
--- what was signed before stays backed
-signed_older : (su : Setup) (i : ℕ) (h : History) (m : Making PastNode) → MakingStands su i h m → (f : Fact) → AllByRecursion (IsBackedStatement (f ∷ told h m) m.state.id) m.signed
+-- what was signed before stays prepared
+signed_older : (su : Setup) (i : ℕ) (h : History) (m : Making PastNode) → MakingStands su i h m → (f : Fact) → AllByRecursion (IsPreparedStatement (f ∷ told h m) m.state.id) m.signed
 signed_older su i h m st f =
     let g = told h m in
-    all_map (IsBackedStatement g m.state.id) (IsBackedStatement (f ∷ g) m.state.id) (λ statement is. statement_more g f m.state.id statement is) m.signed st.signed
+    all_map (IsPreparedStatement g m.state.id) (IsPreparedStatement (f ∷ g) m.state.id) (λ statement is. statement_more g f m.state.id statement is) m.signed st.signed
 
--- a message to all others
-sent_all : (h : History) (i : ℕ) (members : List ℕ) (message : Message) → IsGoodMessage h i message → AllByRecursion (IsGoodPost h i) (to_all members i message)
-sent_all h i members message good =
-    all_mapped (IsGoodPost h i) (λ to. record { to = to; message = message }) (filter (λ to. not (to == i)) members)
-    (all_of (λ to. IsGoodPost h i (record { to = to; message = message })) (λ to. good) (filter (λ to. not (to == i)) members))
+-- a message to all others of the members
+sent_all : (h : History) (i : ℕ) (members all : List ℕ) (message : Message) → members ≡ all → IsGoodMessage h i message → AllByRecursion (IsGoodPost all h i) (to_all members i message)
+sent_all h i members all message same good =
+    let others = filter (λ to. not (to == i)) members in
+    let within : AllByRecursion (λ to. is_in to all ≡ true) others = all_within (λ to. is_in to all ≡ true) (λ to. not (to == i)) members (subst (λ all. AllByRecursion (λ to. is_in to all ≡ true) members) same (all_members members)) in
+    all_mapped (IsGoodPost all h i) (λ to. record { to = to; message = message }) others
+    (all_map (λ to. is_in to all ≡ true) (λ to. IsGoodPost all h i (record { to = to; message = message })) (λ to is. record { message = good; to = is }) others within)
 
 -- what the keys sign with has a spelling
 abbrev pub SignsFit : Keys → Type 0
@@ -121,6 +128,10 @@ place_in n = place_of n.setup n.id (facts_of n.past)
 
 view_in : PastNode → View
 view_in n = view_of n.setup n.id n.past
+
+place_members : (n : PastNode) → (place_in n).config.members ≡ n.setup.config.members
+unfolding place_in place_of
+place_members n = ap (λ (c : Config). c.members) (config_stays n.setup.config (delivered n.id (facts_of n.past)))
 
 place_height : (n : PastNode) → (place_in n).height ≡ height n.id (facts_of n.past)
 unfolding place_in place_of
@@ -155,9 +166,10 @@ module _ (su : Setup) (i : ℕ) (h : History) (bounded : IsBounded su) (correct 
       let f = Accepted n.id place.config.number w.view place.height (block_hash b) in
       let last : IsGoodMessage (f ∷ told h m) n.id (prepare_message place w b) = record { ground = or_left _ _ (accepted_itself n.id place.config.number w.view place.height (block_hash b)); spelled = prepare_fits place w b (fits_in m st) fits.number } in
       let messages = all_append (IsGoodMessage (f ∷ told h m) n.id) first (prepare_message place w b ∷ []) good (last, tt) in
-      let sent = all_flat (IsGoodPost (f ∷ told h m) n.id) (to_all place.config.members n.id) (first ++ prepare_message place w b ∷ [])
-      (all_map (IsGoodMessage (f ∷ told h m) n.id) (λ message. AllByRecursion (IsGoodPost (f ∷ told h m) n.id) (to_all place.config.members n.id message))
-      (λ message is. sent_all (f ∷ told h m) n.id place.config.members message is) (first ++ prepare_message place w b ∷ []) messages) in
+      let all = n.setup.config.members in
+      let sent = all_flat (IsGoodPost all (f ∷ told h m) n.id) (to_all place.config.members n.id) (first ++ prepare_message place w b ∷ [])
+      (all_map (IsGoodMessage (f ∷ told h m) n.id) (λ message. AllByRecursion (IsGoodPost all (f ∷ told h m) n.id) (to_all place.config.members n.id message))
+      (λ message is. sent_all (f ∷ told h m) n.id place.config.members all message (place_members n) is) (first ++ prepare_message place w b ∷ []) messages) in
       after_fact su i h m st f (Did f (Some b) ∷ n.past) (flat_map (to_all place.config.members n.id) (first ++ prepare_message place w b ∷ [])) m.signed ok (eq-eqb n.id n.id refl) tt
       (did_accept n.setup (told h m) n.id n.past place.config.number w.view place.height b fits st.node) sent (signed_older su i h m st f)
 
@@ -179,9 +191,22 @@ module _ (su : Setup) (i : ℕ) (h : History) (bounded : IsBounded su) (correct 
       after_fact su i h m st f (Signed commit (keys.accepts signed) ∷ Did f None ∷ n.past) (to_all place.config.members n.id (message_of.Commit commit)) signed ok (eq-eqb n.id n.id refl) tt
       (signed_commit n.setup (f ∷ told h m) n.id (Did f None ∷ n.past) commit (keys.accepts signed)
       (did_prepare n.setup (told h m) n.id n.past place.config.number w.view place.height d st.node) ground fits)
-      (sent_all (f ∷ told h m) n.id place.config.members (message_of.Commit commit) (record { ground = ground; spelled = fits }))
-      (all_append (IsBackedStatement (f ∷ told h m) n.id) m.signed (commit_text place.config.number w.view place.height d ∷ []) (signed_older su i h m st f)
-      (prepared_backed (f ∷ told h m) n.id place.config.number w.view place.height d here.config (view_fits place w.view here) number ground, tt))
+      (sent_all (f ∷ told h m) n.id place.config.members n.setup.config.members (message_of.Commit commit) (place_members n) (record { ground = ground; spelled = fits }))
+      (all_append (IsPreparedStatement (f ∷ told h m) n.id) m.signed (commit_text place.config.number w.view place.height d ∷ []) (signed_older su i h m st f) (
+        record {
+          config = place.config.number;
+          view = w.view;
+          number = place.height;
+          digest = d;
+          config_fits = here.config;
+          view_fits = view_fits place w.view here;
+          number_fits = number;
+          digest_fits = digest;
+          text = refl;
+          prepared = ground;
+        },
+        tt,
+      ))
 
   -- DELIVER
   deliver_stands : (m : Making PastNode) → MakingStands su i h m → (b : Block) (cert : Cert) → Allowed m.state.setup (told h m) (Delivered m.state.id b (proof_of.Bft cert)) → DeliveredFits b (proof_of.Bft cert)

@@ -35,18 +35,19 @@ use Rattle.world_model.specs.Pools.{entered, has_id, pool_after, request_in}
 use Rattle.world_model.specs.Turns.{ordinary}
 use Rattle.world_model.specs.Worlds.{Entry, keys_of, letter_from}
 use Rattle.world_safety.specs.Resting.{has_ground}
-use Rattle.world_safety.specs.Safe.{IsNoRaftMessage, IsReadable, RestsIn}
+use Rattle.world_safety.specs.Safe.{IsAmong, IsNoRaftMessage, IsReadable, RestsIn}
 use Rattle.world_safety.proofs.Delivering.{some_same}
-use Rattle.world_safety.proofs.Makings.{IsGoodMessage, SignsFit}
+use Rattle.world_safety.proofs.Makings.{IsGoodPost, SignsFit}
 use Rattle.world_safety.proofs.Nodes.{IsBrought, IsGoodEvent, rests_over}
 
 -- ENTRIES
 
--- Of the bytes that a member sent: whatever message they spell has a spelling, is none of Raft, and rests on a fact of the
+-- Of the bytes that a member sent to a member: whatever message they spell has a spelling, is none of Raft, and rests on a fact of the
 -- sender where that isn't Byzantine; and there they do spell one.
-pub record EntryIn (byzantine : List ℕ) (h : History) (e : Entry) : Type 0 where
-  pub readable : IsReadable byzantine e
-  pub rests : RestsIn byzantine h e
+pub record EntryIn (su : Setup) (h : History) (e : Entry) : Type 0 where
+  pub among : IsAmong su.config.members e
+  pub readable : IsReadable su.byzantine e
+  pub rests : RestsIn su.byzantine h e
   pub no_raft : IsNoRaftMessage e
   pub spelled : (m : Message) → message_in e.bytes ≡ Some m → HasMessageSpelling m
 
@@ -79,23 +80,33 @@ no_raft_ground h from (wire.RaftAppend m) is = absurd (cc)
 no_raft_ground h from (wire.RaftAppendReply m) is = absurd (cc)
 no_raft_ground h from (wire.RaftBlock m) is = absurd (cc)
 
-pub posted_in : (byzantine : List ℕ) (h : History) (from to : ℕ) (m : Message) → IsGoodMessage h from m → EntryIn byzantine h (record { from = from; to = to; bytes = message_text m; came = false })
-posted_in byzantine h from to m good =
+pub posted_in : (su : Setup) (h : History) (from to : ℕ) (m : Message) → is_in from su.config.members ≡ true → IsGoodPost su.config.members h from (record { to = to; message = m })
+    → EntryIn su h (record { from = from; to = to; bytes = message_text m; came = false })
+posted_in su h from to m member post =
+    let good = post.message in
     let read = text_read m good.spelled in
     record {
+      among = (member, post.to);
       readable = λ correct. subst IsSome (sym read) refl;
       rests = λ n at. or_right _ _ (text_is (λ n. has_ground h from n ≡ true) m n good.spelled at good.ground);
       no_raft = ap is_raft_if_any read ∙ no_raft_ground h from m good.ground;
       spelled = λ n at. text_is HasMessageSpelling m n good.spelled at good.spelled;
     }
 
--- what a Byzantine member sent, where what it spells has a spelling and is no message of Raft
-pub lied_in : (byzantine : List ℕ) (h : History) (from to : ℕ) (bytes : List ℕ) → is_in from byzantine ≡ true → is_raft_if_any (message_in bytes) ≡ false
-    → ((m : Message) → message_in bytes ≡ Some m → HasMessageSpelling m) → EntryIn byzantine h (record { from = from; to = to; bytes = bytes; came = false })
-lied_in byzantine h from to bytes liar no_raft spelled =
+-- who lies is a Byzantine member, to a member
+pub record IsLiar (su : Setup) (from to : ℕ) : Type 0 where
+  pub from_member : is_in from su.config.members ≡ true
+  pub to_member : is_in to su.config.members ≡ true
+  pub byzantine : is_in from su.byzantine ≡ true
+
+-- what it sent, where what it spells has a spelling and is no message of Raft
+pub lied_in : (su : Setup) (h : History) (from to : ℕ) (bytes : List ℕ) → IsLiar su from to → is_raft_if_any (message_in bytes) ≡ false
+    → ((m : Message) → message_in bytes ≡ Some m → HasMessageSpelling m) → EntryIn su h (record { from = from; to = to; bytes = bytes; came = false })
+lied_in su h from to bytes liar no_raft spelled =
     record {
-      readable = λ correct. absurd (cc);
-      rests = λ m at. or_left _ _ liar;
+      among = (liar.from_member, liar.to_member);
+      readable = λ correct. let byzantine = liar.byzantine in absurd (cc);
+      rests = λ m at. or_left _ _ liar.byzantine;
       no_raft = no_raft;
       spelled = spelled;
     }
@@ -109,11 +120,12 @@ pub bytes_spelled : (bytes : List ℕ) → IsBytes bytes → (m : Message) → m
 bytes_spelled bytes fits m is = (decoded_sound bytes m fits (read_ok bytes m (decoded bytes) is)).grammar
 
 -- facts are only added
-pub entry_over : (byzantine : List ℕ) (h : History) (fs : List Fact) (e : Entry) → EntryIn byzantine h e → EntryIn byzantine (fs ++ h) e
-entry_over byzantine h fs e is =
+pub entry_over : (su : Setup) (h : History) (fs : List Fact) (e : Entry) → EntryIn su h e → EntryIn su (fs ++ h) e
+entry_over su h fs e is =
     record {
+      among = is.among;
       readable = is.readable;
-      rests = λ m at. rests_over byzantine h fs e.from m (is.rests m at);
+      rests = λ m at. rests_over su.byzantine h fs e.from m (is.rests m at);
       no_raft = is.no_raft;
       spelled = is.spelled;
     }
@@ -151,7 +163,7 @@ letter_is from m letter is = go (vote_in m) refl is
         (ap (λ (l : Letter). l.from) (sym same), ap (λ (l : Letter). on_wire l.message) (sym same) ∙ vote_is m v vote)
 
 -- so what it brings to its receiver rests on a fact, or is of a Byzantine member, and has a spelling
-pub entry_brings : (su : Setup) (h : History) (e : Entry) → EntryIn su.byzantine h e → IsGoodEvent su h (letter_from e)
+pub entry_brings : (su : Setup) (h : History) (e : Entry) → EntryIn su h e → IsGoodEvent su h (letter_from e)
 entry_brings su h e is letter at = go (message_in e.bytes) refl at
   where
     go : (o : Option Message) → message_in e.bytes ≡ o → option_map (λ message. record { from = e.from; message = message }) (option_and_then vote_in o) ≡ Some letter → IsBrought su h letter

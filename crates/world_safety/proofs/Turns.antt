@@ -63,7 +63,7 @@ module _ (su : Setup) (number : ℕ) where
       )
 
   -- DELIVER
-  marked_good : (k : ℕ) (e : Entry) (w : PastWorld) → GoodWorld su w → EntryIn su.byzantine w.told e → GoodWorld su (marked k e w)
+  marked_good : (k : ℕ) (e : Entry) (w : PastWorld) → GoodWorld su w → EntryIn su w.told e → GoodWorld su (marked k e w)
   marked_good k e w good is =
       record {
         first = good.first;
@@ -74,17 +74,17 @@ module _ (su : Setup) (number : ℕ) where
         members = good.members;
         actors = good.actors;
         nodes = good.nodes;
-        network = all_set (EntryIn su.byzantine w.told) w.network k (record e { came = true }) good.network (record { readable = is.readable; rests = is.rests; no_raft = is.no_raft; spelled = is.spelled });
+        network = all_set (EntryIn su w.told) w.network k (record e { came = true }) good.network (record { readable = is.readable; rests = is.rests; among = is.among; no_raft = is.no_raft; spelled = is.spelled });
         certified = good.certified;
-        backed = good.backed;
+        sealed = good.sealed;
       }
 
-  letter_good : (k : ℕ) (e : Entry) (w : PastWorld) (o : Option (Node PastNode)) → GoodWorld su w → EntryIn su.byzantine w.told e → node_at e.to w.nodes ≡ o → GoodWorld su (after_letter k e w o)
+  letter_good : (k : ℕ) (e : Entry) (w : PastWorld) (o : Option (Node PastNode)) → GoodWorld su w → EntryIn su w.told e → node_at e.to w.nodes ≡ o → GoodWorld su (after_letter k e w o)
   letter_good k e w None good rests is = good
   letter_good k e w (Some node) good rests is =
       event_keeps su (marked k e w) node (letter_from e) (marked_good k e w good rests) (found_node (NodeIn su w.told w.seals) (λ node. node.id == e.to) w.nodes node good.nodes is) (entry_brings su w.told e rests)
 
-  delivery_good : (k : ℕ) (e : Entry) (w : PastWorld) → GoodWorld su w → EntryIn su.byzantine w.told e → GoodWorld su (after_delivery k e w)
+  delivery_good : (k : ℕ) (e : Entry) (w : PastWorld) → GoodWorld su w → EntryIn su w.told e → GoodWorld su (after_delivery k e w)
   delivery_good k e w good rests = letter_good k e w (node_at e.to w.nodes) good rests refl
 
   deliveries_good : (n k : ℕ) (w : PastWorld) (rest : PastWorld → List PastWorld) → GoodWorld su w
@@ -122,7 +122,7 @@ module _ (su : Setup) (number : ℕ) where
           → AllByRecursion (GoodWorld su) (elim o [ None ↦ [] | Some e ↦ after_delivery k e w ∷ worlds_after (delivery past_setting number k e w).next rest ])
       go None is = tt
       go (Some e) is =
-          let next_good = delivery_good k e w good (found_entry (EntryIn su.byzantine w.told) w.network k e good.network is) in
+          let next_good = delivery_good k e w good (found_entry (EntryIn su w.told) w.network k e good.network is) in
           (next_good, behind w (after_delivery k e w) (delivery past_setting number k e w) rest (delivery_ends number k e w) next_good more)
 
   flush_good : (only : Option (List ℕ)) (n : ℕ) (w : PastWorld) → GoodWorld su w → AllByRecursion (GoodWorld su) (in_flush number only n w)
@@ -147,7 +147,7 @@ module _ (su : Setup) (number : ℕ) where
             (record { setup = is.setup; id = is.id; correct = is.correct; stands = is.stands; pool = pool_spelled node.pool bytes fits is.pool; stored = is.stored; sealed = is.sealed }) w.nodes (nodes_apart su w good) good.nodes;
         network = good.network;
         certified = good.certified;
-        backed = good.backed;
+        sealed = good.sealed;
       }
 
   -- A COMMAND

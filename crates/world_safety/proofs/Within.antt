@@ -26,7 +26,7 @@ use Rattle.world_safety.proofs.Among.{between_lines}
 use Rattle.world_safety.proofs.Lists.{all_last}
 use Rattle.world_safety.proofs.Beginning.{IsGood, IsGoodIn}
 use Rattle.world_safety.proofs.Telling.{line_tells}
-use Rattle.world_safety.proofs.Tells.{GoesTo}
+use Rattle.world_safety.proofs.Tells.{GoesTo, IsEarly}
 use Rattle.world_safety.proofs.Turns.{turn_good}
 
 -- A LINE
@@ -48,7 +48,7 @@ line_good o number line good = go (nat_lt max_lines number) (nat_lt max_line (le
 -- and it leads to a good one
 line_leads : (o next : Option PastWorld) (number : ℕ) (line : List ℕ) → IsGoodIn o → (line_turn (turn_of past_setting) o number line).next ≡ Ok next → IsGoodIn next
 line_leads o next number line good is =
-    let to : next ≡ last_of o (worlds_in_line o number line) = subst (λ (r : Result (Option PastWorld) Ending). GoesTo r (last_of o (worlds_in_line o number line))) is (line_tells number o line).next in
+    let to : next ≡ last_of o (worlds_in_line o number line) = subst (λ (r : Result (Option PastWorld) Ending). GoesTo IsEarly r (last_of o (worlds_in_line o number line))) is (line_tells number o line).next in
     subst IsGoodIn (sym to) (all_last IsGoodIn o (worlds_in_line o number line) good (line_good o number line good))
 
 -- A SCRIPT

@@ -25,14 +25,14 @@ use Rattle.world_model.specs.Histories.{past_setting}
 use Rattle.world_model.specs.Pools.{has_id}
 use Rattle.world_model.specs.Worlds.{Entry, Node, World, entry, keys_of, making, node_after, requests_in, seals_of, sent_by, stored_in, with_node, world_after}
 use Rattle.world_safety.specs.Certified.{IsCertifiedFact}
-use Rattle.world_safety.specs.Safe.{ids_of, setup_of, stored}
+use Rattle.world_safety.specs.Safe.{IsAllowedSeal, IsPreparedStatement, ids_of, setup_of, stored}
 use Rattle.world_safety.proofs.Lists.{all_append, all_map, all_mapped, all_reverse, all_within}
 use Rattle.world_safety.proofs.Fits.{FactFits}
 use Rattle.world_safety.proofs.Ids.{member_has}
 use Rattle.world_safety.proofs.Makings.{IsGoodPost, MakingStands, next_stands, told}
 use Rattle.world_safety.proofs.Own.{own_others, stored_more}
 use Rattle.world_safety.proofs.Placing.{IsBounded}
-use Rattle.world_safety.proofs.Backing.{IsBackedSeal, IsBackedStatement, seal_over}
+use Rattle.world_safety.proofs.Backing.{seal_over}
 use Rattle.world_safety.proofs.Nodes.{IsGoodEvent, NodeStands, other_did}
 use Rattle.world_safety.proofs.Reading.{EntryIn, entry_over, posted_in, seals_fit}
 use Rattle.world_safety.proofs.Sealing.{IsSealedMaking, IsSealedNode, facts_certified, node_sealed, step_sealed}
@@ -40,6 +40,9 @@ use Rattle.world_safety.proofs.Sealing.{IsSealedMaking, IsSealedNode, facts_cert
 -- the members that aren't Byzantine
 abbrev pub correct_in : Setup → List ℕ
 correct_in su = filter (λ id. not (is_in id su.byzantine)) su.config.members
+
+abbrev pub IsSealIn : Setup → History → Seal → Type 0
+IsSealIn su h seal = IsAllowedSeal su.config.members su.byzantine (correct_in su) h seal
 
 -- a node of the world, where these are all facts, and this is the box of seals
 pub record NodeIn (su : Setup) (h : History) (box : List Seal) (node : Node PastNode) : Type 0 where
@@ -65,9 +68,9 @@ pub record GoodWorld (su : Setup) (w : World PastNode History) : Type 0 where
   pub members : ids_of w.nodes ≡ correct_in su
   pub actors : AllByRecursion (λ f. is_in (actor f) (correct_in su) ≡ true) w.told
   pub nodes : AllByRecursion (NodeIn su w.told w.seals) w.nodes
-  pub network : AllByRecursion (EntryIn su.byzantine w.told) w.network
+  pub network : AllByRecursion (EntryIn su w.told) w.network
   pub certified : AllByRecursion (IsCertifiedFact (is_sealed w.seals) su.config) w.told
-  pub backed : AllByRecursion (IsBackedSeal (correct_in su) w.told) w.seals
+  pub sealed : AllByRecursion (IsSealIn su w.told) w.seals
 
 -- MEMBERS IN ASCENDING ORDER ARE APART
 
@@ -173,13 +176,14 @@ event_keeps su w node event good is brought =
     let run : IsRun su g = subst (λ su. IsRun su g) st.setup st.run in
     let mine : NodeStands su g i m.state.past = subst (λ i. NodeStands su g i m.state.past) st.id (subst (λ su. NodeStands su g m.state.id m.state.past) st.setup st.node) in
     let acts : AllByRecursion (λ f. (actor f == i) ≡ true) (reverse m.facts) = all_reverse (λ f. (actor f == i) ≡ true) m.facts (subst (λ i. AllByRecursion (λ f. (actor f == i) ≡ true) m.facts) st.id st.actors) in
-    let posts : AllByRecursion (IsGoodPost g i) m.posts = subst (λ i. AllByRecursion (IsGoodPost g i) m.posts) st.id st.posts in
+    let members = su.config.members in
+    let posts : AllByRecursion (IsGoodPost members g i) m.posts = subst (λ i. AllByRecursion (IsGoodPost members g i) m.posts) st.id (subst (λ (su : Setup). AllByRecursion (IsGoodPost su.config.members g m.state.id) m.posts) st.setup st.posts) in
     let new = node_after node m in
-    let sent = all_mapped (EntryIn su.byzantine g) (λ (post : Post). record { from = i; to = post.to; bytes = message_text post.message; came = false }) m.posts
-    (all_map (IsGoodPost g i) (λ (post : Post). EntryIn su.byzantine g (record { from = i; to = post.to; bytes = message_text post.message; came = false })) (λ post good. posted_in su.byzantine g i post.to post.message good) m.posts posts) in
-    let signed : AllByRecursion (IsBackedStatement g i) m.signed = subst (λ i. AllByRecursion (IsBackedStatement g i) m.signed) st.id st.signed in
-    let sealed_by = all_mapped (IsBackedSeal (correct_in su) g) (λ (statement : List ℕ). record { signer = i; statement = statement }) m.signed
-    (all_map (IsBackedStatement g i) (λ (statement : List ℕ). IsBackedSeal (correct_in su) g (record { signer = i; statement = statement })) (λ statement backed among. backed) m.signed signed) in
+    let sent = all_mapped (EntryIn su g) (λ (post : Post). record { from = i; to = post.to; bytes = message_text post.message; came = false }) m.posts
+    (all_map (IsGoodPost members g i) (λ (post : Post). EntryIn su g (record { from = i; to = post.to; bytes = message_text post.message; came = false })) (λ post good. posted_in su g i post.to post.message correct.member good) m.posts posts) in
+    let signed : AllByRecursion (IsPreparedStatement g i) m.signed = subst (λ i. AllByRecursion (IsPreparedStatement g i) m.signed) st.id st.signed in
+    let sealed_by = all_mapped (IsSealIn su g) (λ (statement : List ℕ). record { signer = i; statement = statement }) m.signed
+    (all_map (IsPreparedStatement g i) (λ (statement : List ℕ). IsSealIn su g (record { signer = i; statement = statement })) (λ statement prepared. inr (is.correct, prepared)) m.signed signed) in
     let delivered = flat_map requests_in m.facts in
     let box = w.seals ++ seals_of i m.signed in
     let grown : KeepsAccepted (is_sealed w.seals) (is_sealed box) = is_sealed-grown w.seals (seals_of i m.signed) in
@@ -213,11 +217,11 @@ event_keeps su w node event good is brought =
             sealed = sealed.node;
           })
           w.nodes (nodes_apart su w good) good.nodes;
-      network = all_append (EntryIn su.byzantine g) w.network (sent_by i m.posts) (all_map (EntryIn su.byzantine h) (EntryIn su.byzantine g) (entry_over su.byzantine h (reverse m.facts)) w.network good.network) sent;
+      network = all_append (EntryIn su g) w.network (sent_by i m.posts) (all_map (EntryIn su h) (EntryIn su g) (entry_over su h (reverse m.facts)) w.network good.network) sent;
       certified = all_append (IsCertifiedFact (is_sealed box) su.config) (reverse m.facts) h (all_reverse (IsCertifiedFact (is_sealed box) su.config) m.facts sealed.facts)
           (facts_certified (is_sealed w.seals) (is_sealed box) grown su.config h good.certified);
-      backed = all_append (IsBackedSeal (correct_in su) g) w.seals (seals_of i m.signed)
-          (all_map (IsBackedSeal (correct_in su) h) (IsBackedSeal (correct_in su) g) (seal_over (correct_in su) h (reverse m.facts)) w.seals good.backed) sealed_by;
+      sealed = all_append (IsSealIn su g) w.seals (seals_of i m.signed)
+          (all_map (IsSealIn su h) (IsSealIn su g) (seal_over su.config.members su.byzantine (correct_in su) h (reverse m.facts)) w.seals good.sealed) sealed_by;
     }
 
 -- WHAT IS FOUND
@@ -240,6 +244,6 @@ all_set P [] k e all good = tt
 all_set P (x ∷ xs) zero e all good = (good, all.1)
 all_set P (x ∷ xs) (suc k) e all good = (all.0, all_set P xs k e all.1 good)
 
-pub entry_in : (su : Setup) (k : ℕ) (e : Entry) (w : World PastNode History) → GoodWorld su w → entry k w ≡ Some e → EntryIn su.byzantine w.told e
+pub entry_in : (su : Setup) (k : ℕ) (e : Entry) (w : World PastNode History) → GoodWorld su w → entry k w ≡ Some e → EntryIn su w.told e
 entry_in su zero e w good is = absurd (cc)
-entry_in su (suc k) e w good is = found_entry (EntryIn su.byzantine w.told) w.network k e good.network is
+entry_in su (suc k) e w good is = found_entry (EntryIn su w.told) w.network k e good.network is

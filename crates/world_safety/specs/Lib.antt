@@ -3,3 +3,4 @@ pub mod Safe
 pub mod Within
 pub mod Telling
 pub mod Certified
+pub mod TooMany

@@ -1,7 +1,7 @@
 -- What is so of every world of a script: what its nodes did is a run, its messages rest on what their senders did, and so its ledgers agree.
-use Rattle.std.specs.Prelude.{◌≡◌, ◌≤◌, ℕ, ◌||◌, not, false, List, [], ◌∷◌, map, filter, length, reverse, Option, Some, None, IsSome, IsTrue, ⊤}
+use Rattle.std.specs.Prelude.{◌≡◌, ◌≤◌, ◌⊎◌, ℕ, ◌==◌, Bool, false, ◌||◌, ◌&&◌, not, List, [], ◌∷◌, map, filter, length, reverse, Option, Some, None, IsSome, IsTrue, ⊤}
 use Rattle.std.specs.List.{AllByRecursion, flat_map}
-use Rattle.ord_types.specs.Grammar.{IsNumber}
+use Rattle.ord_types.specs.Grammar.{IsDigest, IsNumber}
 use Rattle.ord_types.specs.Members.{fault_bound, how_many_in, is_in}
 use Rattle.ord_types.specs.declared.values.Proof.TheVariants as proof_of
 use Rattle.ord_types.specs.declared.values.Sig.{Sig}
@@ -55,6 +55,10 @@ IsReadable byzantine e = is_in e.from byzantine ≡ false → IsSome (message_in
 abbrev pub RestsIn : List ℕ → History → Entry → Type 0
 RestsIn byzantine h e = (m : Message) → message_in e.bytes ≡ Some m → IsTrue (is_in e.from byzantine || has_ground h e.from m)
 
+-- members send to members
+abbrev pub IsAmong : List ℕ → Entry → Type 0
+IsAmong members e = IsTrue (is_in e.from members) × IsTrue (is_in e.to members)
+
 -- nobody made up a message of Raft
 abbrev pub IsNoRaftMessage : Entry → Type 0
 IsNoRaftMessage e = is_raft_if_any (message_in e.bytes) ≡ false
@@ -66,10 +70,32 @@ AreBacked correct h seals =
     (i e v s : ℕ) (d : List ℕ) (sig : Sig) → IsTrue (is_in i correct) → IsNumber e → IsNumber v → IsNumber s
     → sig.signer ≡ i → IsTrue (is_sealed seals (commit_text e v s d) sig) → IsTrue (has (is_prepared i e v s d) h)
 
+-- the statement is the commit statement of a preparation of this id that stands in the history
+pub record IsPreparedStatement (h : History) (i : ℕ) (statement : List ℕ) : Type 0 where
+  pub config : ℕ
+  pub view : ℕ
+  pub number : ℕ
+  pub digest : List ℕ
+  pub config_fits : IsNumber config
+  pub view_fits : IsNumber view
+  pub number_fits : IsNumber number
+  pub digest_fits : IsDigest digest
+  pub text : statement ≡ commit_text config view number digest
+  pub prepared : IsTrue (has (is_prepared i config view number digest) h)
+
+-- who may sign anything: the administrator, which is id 0, and a Byzantine member
+abbrev pub signs_anything : List ℕ → List ℕ → ℕ → Bool
+signs_anything members byzantine id = (id == 0) || is_in id members && is_in id byzantine
+
+-- each other seal is of one of these correct members, on what it prepared
+abbrev pub IsAllowedSeal : List ℕ → List ℕ → List ℕ → History → Seal → Type 0
+IsAllowedSeal members byzantine correct h seal =
+    IsTrue (signs_anything members byzantine seal.signer) ⊎ (IsTrue (is_in seal.signer correct) × IsPreparedStatement h seal.signer seal.statement)
+
 -- What the nodes did, and nobody else did anything, is a run by the rules, in the order in which they did it. The nodes are
--- the correct members; no more are Byzantine than the bound of the configuration. The bytes of whatever a node sent spell
--- a message, which rests on a fact of its sender; a Byzantine member sent any bytes but messages of Raft. A node's signatures
--- rest on what it prepared. So the ledgers agree, where no two texts collide.
+-- the correct members; no more are Byzantine than the bound of the configuration. Members send to members. The bytes of whatever a node sent spell
+-- a message, which rests on a fact of its sender; a Byzantine member sent any bytes but messages of Raft. A node signs only
+-- what it prepared, and nobody else signs but the administrator and Byzantine members. So the ledgers agree, where no two texts collide.
 pub record IsSafeWorld (w : World PastNode History) : Type 0 where
   pub members : AreIds w.config.members
   pub bounded : how_many_in w.byzantine w.config.members ≤ fault_bound (length w.config.members)
@@ -79,7 +105,9 @@ pub record IsSafeWorld (w : World PastNode History) : Type 0 where
   pub run : IsRun (setup_of w) w.told
   pub readable : AllByRecursion (IsReadable w.byzantine) w.network
   pub resting : AllByRecursion (RestsIn w.byzantine w.told) w.network
+  pub among : AllByRecursion (IsAmong w.config.members) w.network
   pub no_raft : AllByRecursion IsNoRaftMessage w.network
+  pub sealed : AllByRecursion (IsAllowedSeal w.config.members w.byzantine (ids_of w.nodes) w.told) w.seals
   pub backed : AreBacked (ids_of w.nodes) w.told w.seals
   pub agreement : NoCollision (setup_of w) w.told → Agreement (setup_of w) w.told
 

@@ -1,20 +1,24 @@
 -- The text of a script is told by the histories of its worlds: the block lines are those of the facts that happened, line by line.
-use Rattle.std.specs.Prelude.{◌≡◌, ℕ, ◌+◌, List, [], ◌∷◌, ◌++◌, codes, map, reverse, slice_get, Option, Some, None, ⊤}
-use Rattle.std.specs.List.{AllByRecursion, Contains, flat_map}
+use Rattle.std.specs.Prelude.{◌≡◌, ℕ, ◌+◌, ◌<◌, ◌&&◌, List, [], ◌∷◌, ◌++◌, codes, length, map, reverse, slice_get, Option, Some, None, Result, Ok, Err, IsTrue, ⊤}
+use Rattle.std.specs.List.{AllByRecursion, flat_map}
+use Rattle.ord_types.specs.Members.{is_in}
 use Rattle.safety_model.specs.Blocks.{Block}
 use Rattle.safety_model.specs.Facts.{History, Proof}
 use Rattle.safety_model.specs.declared.fact.Fact.{Fact}
+use Rattle.signer_edge.specs.declared.seals.Seal.{Seal}
+use Rattle.line_flow.specs.Lines.{lines}
 use Rattle.script_play.specs.declared.ending.Ending.{Ending}
 use Rattle.script_play.specs.declared.ending.Ending.TheVariants.{Done}
+use Rattle.script_play.specs.Runs.{line_turn}
 use Rattle.script_play.specs.Texts.{malformed_text, not_built_text, too_many_faulty_text}
 use Rattle.world_model.specs.Histories.{past_setting, run_of}
 use Rattle.world_model.specs.Pools as pool
 use Rattle.world_model.specs.Texts.{answer_text, deliver_text, fact_text, flush_text, genesis_text, lied_text, limit_text, refused_text, seal_text, show_text, tick_text}
-use Rattle.world_model.specs.Turns.{closing_of}
-use Rattle.world_model.specs.Worlds.{Node, node_at}
+use Rattle.world_model.specs.Turns.{closing_of, turn_of}
+use Rattle.world_model.specs.Worlds.{Entry, Node, entry, node_at}
 use Rattle.node_model.specs.Keeping.{PastNode}
-use Rattle.world_safety.specs.Safe.{IsSafe}
-use Rattle.world_safety.specs.Within.{PastWorld, all_worlds_of}
+use Rattle.world_safety.specs.Safe.{IsSafe, signs_anything}
+use Rattle.world_safety.specs.Within.{PastWorld, all_worlds_of, worlds_in_line}
 
 -- HISTORIES
 
@@ -97,6 +101,8 @@ reply_text number (Faulty config count bound) = too_many_faulty_text number conf
 reply_text number (Malformed place) = malformed_text number place
 reply_text number NotBuilt = not_built_text number
 
+-- WHAT A REPLY TELLS of a world
+
 -- this stands in the ledger of the world's node of this id
 pub record IsStored (w : PastWorld) (id : ℕ) (b : Block) (proof : Proof) : Type 0 where
   pub node : Node PastNode
@@ -104,14 +110,34 @@ pub record IsStored (w : PastWorld) (id : ℕ) (b : Block) (proof : Proof) : Typ
   pub place : ℕ
   pub stands : slice_get node.ledger place ≡ Some (b, proof)
 
-abbrev pub IsStoredIn : Option PastWorld → ℕ → Block → Proof → Type 0
-IsStoredIn None id b proof = ⊥
-IsStoredIn (Some w) id b proof = IsStored w id b proof
+-- the last entry of the network has this number, and a Byzantine member sent it
+pub record IsLastSent (w : PastWorld) (number : ℕ) : Type 0 where
+  pub last : Entry
+  pub at : entry number w ≡ Some last
+  pub count : length w.network ≡ number
+  pub by : IsTrue (is_in last.from w.config.members && is_in last.from w.byzantine)
 
--- what is shown stands in a ledger of one of these worlds
-abbrev pub IsShownIn : (Option PastWorld → Type 0) → Reply → Type 0
-IsShownIn among (Shown id b proof) = (o : Option PastWorld) × among o × IsStoredIn o id b proof
-IsShownIn among _ = ⊤
+-- the last seal of the box has this place, and is of one who may sign anything
+pub record IsLastSeal (w : PastWorld) (place : ℕ) : Type 0 where
+  pub last : Seal
+  pub at : slice_get w.seals place ≡ Some last
+  pub count : length w.seals ≡ place + 1
+  pub by : IsTrue (signs_anything w.config.members w.byzantine last.signer)
+
+-- there is a world, and this is so of it
+abbrev pub HasWorld : (PastWorld → Type 0) → Option PastWorld → Type 0
+HasWorld Is None = ⊥
+HasWorld Is (Some w) = Is w
+
+-- what a reply tells is so, where this is the last world of its line
+abbrev pub IsSo : Option PastWorld → Reply → Type 0
+IsSo o (Shown id b proof) = HasWorld (λ w. IsStored w id b proof) o
+IsSo o (Lied word sent) = HasWorld (λ w. IsLastSent w sent) o
+IsSo o (Sealed place) = HasWorld (λ w. IsLastSeal w place) o
+IsSo o (Faulty config count bound) = bound < count
+IsSo o _ = ⊤
+
+-- THE PARTS OF A TEXT
 
 -- the facts of each event of a line, and its reply
 pub record Part : Type 0 where
@@ -124,6 +150,28 @@ blocks_text number events = flat_map (λ facts. flat_map (fact_text number) fact
 
 abbrev pub part_text : ℕ → Part → List ℕ
 part_text number part = blocks_text number part.events ++ reply_text number part.reply
+
+-- These are the worlds of a line that began with this one: they have the histories of its events, and what its reply tells is
+-- so in the last of them, or in the one with which it began where it has none.
+pub record IsPartOf (o : Option PastWorld) (here : List (Option PastWorld)) (part : Part) : Type 0 where
+  pub histories : map told_in here ≡ histories_after (told_in o) part.events
+  pub so : IsSo (last_of o here) part.reply
+
+-- the parts behind a turn: none where it ended the run
+abbrev pub AreLater : Result (Option PastWorld) Ending → (Option PastWorld → List Part → Type 0) → List Part → Type 0
+AreLater (Ok next) rest parts = rest next parts
+AreLater (Err ending) rest parts = parts ≡ []
+
+-- a first part, and those behind the turn
+abbrev pub BeginWith : (Part → Type 0) → Result (Option PastWorld) Ending → (Option PastWorld → List Part → Type 0) → List Part → Type 0
+BeginWith First next rest [] = ⊥
+BeginWith First next rest (part ∷ parts) = First part × AreLater next rest parts
+
+-- one part for each of these lines, up to the one that ends the run
+unfoldable pub AreParts : List (List ℕ) → Option PastWorld → ℕ → List Part → Type 0
+AreParts [] o number parts = parts ≡ []
+AreParts (line ∷ more) o number parts =
+    BeginWith (IsPartOf o (worlds_in_line o number line)) (line_turn (turn_of past_setting) o number line).next (λ next parts. AreParts more next (number + 1) parts) parts
 
 -- THE TEXT OF A SCRIPT
 
@@ -146,12 +194,12 @@ end_text _ o = []
 
 -- There is one world for each event, whose history grew by the facts of that event, so that the last world's history has
 -- them all; and the text has the block lines of these facts, in their order, and no others: beside them only the replies
--- to the lines, and the closing lines of the last world. What a reply shows stood in the ledger of the node that it names.
+-- to the lines, and the closing lines of the last world. Each line has a part of its own, whose reply is so in the last of its worlds.
 pub record IsTold (script : List ℕ) : Type 0 where
   pub parts : List Part
   pub histories : map told_in (all_worlds_of [] script) ≡ [] ∷ histories_after [] (events_of parts)
   pub last : told_in (last_of None (all_worlds_of [] script)) ≡ reverse (facts_of (events_of parts))
-  pub shown : AllByRecursion (λ (part : Part). IsShownIn (Contains (all_worlds_of [] script)) part.reply) parts
+  pub each : AreParts (lines script) None 1 parts
   pub text : (run_of [] script).text ≡ parts_text 1 parts ++ end_text (run_of [] script).ending (last_of None (all_worlds_of [] script))
 
 -- all worlds of every script are safe, not only those between its lines
