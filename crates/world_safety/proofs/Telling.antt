@@ -27,56 +27,56 @@ use Rattle.world_model.specs.Worlds.{Node, node_at}
 use Rattle.world_safety.specs.Telling.{EveryTextIsTold, AreParts, BeginWith, IsPartOf, IsSo, IsTold, NoBlock, NoCore, NoEntry, NoWorld, Part, Refusal, Reply, SecondGenesis, UnknownNode, blocks_text, end_text, events_of, facts_of, histories_after, last_of, part_text, parts_text, reply_text, told_in}
 use Rattle.world_safety.specs.Telling as it
 use Rattle.world_safety.proofs.LyingTells.{lie_tells, propose_tells, seal_tells, vote_tells}
-use Rattle.world_safety.proofs.Tells.{GoesTo, Tells, deliver_tells, flush_tells, found_test, histories-append, histories-last, last-append, last-map, in_script, in_world, replies, show_tells, submit_tells, ticks_tell, told_some}
+use Rattle.world_safety.proofs.Tells.{GoesTo, Tells, deliver_tells, flush_tells, found_test, histories-append, histories-last, last-append, last-map, IsEarly, IsNetworkLimit, in_script, in_world, replies, show_tells, submit_tells, ticks_tell, told_some}
 use Rattle.world_safety.specs.Within.{PastWorld, after_submit, in_ticks, where_node, worlds_in, worlds_in_line, worlds_in_lines, worlds_in_turn, worlds_said}
 
 module _ (number : ℕ) where
   -- A COMMAND
   -- a line about an id without a node
-  absent_tells : (w : PastWorld) (id : ℕ) → Tells in_world number w [] (refuses number (absence w id) w)
-  absent_tells w id = go (is_in id w.config.members)
+  absent_tells : (m : Meaning) (w : PastWorld) (id : ℕ) → Tells (in_world m) number w [] (refuses number (absence w id) w)
+  absent_tells m w id = go (is_in id w.config.members)
     where
-      go : (t : Bool) → Tells in_world number w [] (refuses number (cond t (codes "no core") (codes "unknown node")) w)
-      go true = replies number in_world w (refuses number (codes "no core") w) (it.Refused NoCore) refl refl tt
-      go false = replies number in_world w (refuses number (codes "unknown node") w) (it.Refused UnknownNode) refl refl tt
+      go : (t : Bool) → Tells (in_world m) number w [] (refuses number (cond t (codes "no core") (codes "unknown node")) w)
+      go true = replies number (in_world m) w (refuses number (codes "no core") w) (it.Refused NoCore) refl refl tt
+      go false = replies number (in_world m) w (refuses number (codes "unknown node") w) (it.Refused UnknownNode) refl refl tt
 
-  node_tells : (w : PastWorld) (id : ℕ) (o : Option (Node PastNode)) (within : Node PastNode → List PastWorld) (turn : Node PastNode → Turn PastWorld)
-      → ((node : Node PastNode) → Tells in_world number w (within node) (turn node)) → Tells in_world number w (where_node o within) (at_found number w id o turn)
-  node_tells w id None within turn each = absent_tells w id
-  node_tells w id (Some node) within turn each = each node
+  node_tells : (m : Meaning) (w : PastWorld) (id : ℕ) (o : Option (Node PastNode)) (within : Node PastNode → List PastWorld) (turn : Node PastNode → Turn PastWorld)
+      → ((node : Node PastNode) → Tells (in_world m) number w (within node) (turn node)) → Tells (in_world m) number w (where_node o within) (at_found number w id o turn)
+  node_tells m w id None within turn each = absent_tells m w id
+  node_tells m w id (Some node) within turn each = each node
 
   -- a block is shown where the node is known
-  show_line : (w : PastWorld) (id : ℕ) (o : Option (Node PastNode)) (block : ℕ) → node_at id w.nodes ≡ o → Tells in_world number w [] (at_found number w id o (λ node. show_turn number w node block))
-  show_line w id None block is = absent_tells w id
-  show_line w id (Some node) block is =
+  show_line : (m : Meaning) (w : PastWorld) (id : ℕ) (o : Option (Node PastNode)) (block : ℕ) → m ≡ Means (Show id block) → node_at id w.nodes ≡ o → Tells (in_world m) number w [] (at_found number w id o (λ node. show_turn number w node block))
+  show_line m w id None block asked is = absent_tells m w id
+  show_line m w id (Some node) block asked is =
       let named : node.id ≡ id = eqb-true node.id id (found_test (λ node. node.id == id) w.nodes node is) in
-      show_tells number w node block (subst (λ id. node_at id w.nodes ≡ Some node) (sym named) is)
+      show_tells number m w node block (subst (λ id. m ≡ Means (Show id block)) (sym named) asked) (subst (λ id. node_at id w.nodes ≡ Some node) (sym named) is)
 
-  pub command_tells : (w : PastWorld) (command : Command) → Tells in_world number w (worlds_in number w command) (turn_in past_setting number w command)
-  command_tells w (Genesis members byzantine) = replies number in_world w (refuses number (codes "second genesis") w) (it.Refused SecondGenesis) refl refl tt
+  pub command_tells : (w : PastWorld) (command : Command) → Tells (in_world (Means command)) number w (worlds_in number w command) (turn_in past_setting number w command)
+  command_tells w (Genesis members byzantine) = replies number (in_world (Means (Genesis members byzantine))) w (refuses number (codes "second genesis") w) (it.Refused SecondGenesis) refl refl tt
   command_tells w (Submit id client serial payload) =
       let bytes = request_text (ordinary client serial payload) in
-      node_tells w id (node_at id w.nodes) (λ node. after_submit w node bytes ∷ []) (λ node. submit_turn number (codes "submit") w node bytes) (λ node. submit_tells number (codes "submit") w node bytes)
+      node_tells (Means (Submit id client serial payload)) w id (node_at id w.nodes) (λ node. after_submit w node bytes ∷ []) (λ node. submit_turn number (codes "submit") w node bytes) (λ node. submit_tells number (Means (Submit id client serial payload)) (codes "submit") w node bytes)
   command_tells w (Raw id bytes) =
-      node_tells w id (node_at id w.nodes) (λ node. after_submit w node bytes ∷ []) (λ node. submit_turn number (codes "raw") w node bytes) (λ node. submit_tells number (codes "raw") w node bytes)
-  command_tells w (Show id block) = show_line w id (node_at id w.nodes) block refl
-  command_tells w (Tick id count) = node_tells w id (node_at id w.nodes) (λ node. in_ticks number id count w) (λ node. ticks past_setting number id count w) (λ node. ticks_tell number id count w)
-  command_tells w (Deliver ranges) = deliver_tells number ranges 0 w
-  command_tells w (Flush only) = flush_tells number only most_flushed 0 w
-  command_tells w (Propose from to view client serial payload) = propose_tells number w from to view (ordinary client serial payload)
-  command_tells w (Vote from to kind view k) = vote_tells number w from to kind view k
-  command_tells w (Lie from to bytes) = lie_tells number w from to bytes
-  command_tells w (Seal id bytes) = seal_tells number w id bytes
+      node_tells (Means (Raw id bytes)) w id (node_at id w.nodes) (λ node. after_submit w node bytes ∷ []) (λ node. submit_turn number (codes "raw") w node bytes) (λ node. submit_tells number (Means (Raw id bytes)) (codes "raw") w node bytes)
+  command_tells w (Show id block) = show_line (Means (Show id block)) w id (node_at id w.nodes) block refl refl
+  command_tells w (Tick id count) = node_tells (Means (Tick id count)) w id (node_at id w.nodes) (λ node. in_ticks number id count w) (λ node. ticks past_setting number id count w) (λ node. ticks_tell number (Means (Tick id count)) id count w)
+  command_tells w (Deliver ranges) = deliver_tells number (Means (Deliver ranges)) ranges 0 w
+  command_tells w (Flush only) = flush_tells number (Means (Flush only)) only most_flushed 0 w
+  command_tells w (Propose from to view client serial payload) = propose_tells number (Means (Propose from to view client serial payload)) w from to view (ordinary client serial payload) refl
+  command_tells w (Vote from to kind view k) = vote_tells number (Means (Vote from to kind view k)) w from to kind view k refl
+  command_tells w (Lie from to bytes) = lie_tells number (Means (Lie from to bytes)) w from to bytes refl
+  command_tells w (Seal id bytes) = seal_tells number (Means (Seal id bytes)) w id bytes refl
 
   -- WHERE THERE MAY BE NO WORLD YET
-  some_tells : (w : PastWorld) (within : List PastWorld) (turn : Turn PastWorld) → Tells in_world number w within turn → Tells in_script number (Some w) (map Some within) (goes_on turn some_world)
-  some_tells w within turn tells = go turn.printed turn.next tells.printed tells.next
+  some_tells : (m : Meaning) (w : PastWorld) (within : List PastWorld) (turn : Turn PastWorld) → Tells (in_world m) number w within turn → Tells (in_script m) number (Some w) (map Some within) (goes_on turn some_world)
+  some_tells m w within turn tells = go turn.printed turn.next tells.printed tells.next
     where
-      so : IsSo (last_of (Some w) (map Some within)) tells.reply
-      so = subst (λ o. IsSo o tells.reply) (sym (last-map Some w within)) tells.so
+      so : IsSo m (last_of (Some w) (map Some within)) tells.reply
+      so = subst (λ o. IsSo m o tells.reply) (sym (last-map Some w within)) tells.so
 
-      go : (printed : List ℕ) (r : Result PastWorld Ending) → printed ≡ blocks_text number tells.events ++ reply_text number tells.reply → GoesTo in_world.EndsBy r (last_of w within)
-          → Tells in_script number (Some w) (map Some within) (then_on printed r some_world)
+      go : (printed : List ℕ) (r : Result PastWorld Ending) → printed ≡ blocks_text number tells.events ++ reply_text number tells.reply → GoesTo IsNetworkLimit r (last_of w within)
+          → Tells (in_script m) number (Some w) (map Some within) (then_on printed r some_world)
       go printed (Ok next) is to =
           record {
             events = tells.events;
@@ -88,11 +88,11 @@ module _ (number : ℕ) where
           }
       go printed (Err ending) is to = record { events = tells.events; reply = tells.reply; histories = told_some within ∙ tells.histories; so = so; printed = is; next = λ o. ap (λ e. end_text e o) to }
 
-  none_tells : Tells in_script number None [] (refuses number (codes "no world") None)
-  none_tells = replies number in_script None (refuses number (codes "no world") None) (it.Refused NoWorld) refl refl tt
+  none_tells : (m : Meaning) → Tells (in_script m) number None [] (refuses number (codes "no world") None)
+  none_tells m = replies number (in_script m) None (refuses number (codes "no world") None) (it.Refused NoWorld) refl refl tt
 
   -- too many Byzantine members end the run
-  genesis_tells : (members byzantine : List ℕ) → Tells in_script number None (worlds_in_turn None number (Genesis members byzantine)) (genesis_turn past_setting number members byzantine)
+  genesis_tells : (members byzantine : List ℕ) → Tells (in_script (Means (Genesis members byzantine))) number None (worlds_in_turn None number (Genesis members byzantine)) (genesis_turn past_setting number members byzantine)
   genesis_tells members byzantine = go (nat_lt bound count) refl
     where
       count : ℕ
@@ -105,46 +105,46 @@ module _ (number : ℕ) where
       first = first_world past_setting (first_config members) byzantine
 
       go : (t : Bool) → nat_lt bound count ≡ t
-          → Tells in_script number None (cond t [] (Some first ∷ []))
+          → Tells (in_script (Means (Genesis members byzantine))) number None (cond t [] (Some first ∷ []))
           (cond t (record { printed = too_many_faulty_text number 0 count bound; next = Err (TooManyFaulty number 0 count bound) }) (says (genesis_text number) (Some first)))
       go true above = record { events = []; reply = it.Faulty 0 count bound; histories = refl; so = ltb-true bound count above; printed = refl; next = λ o. refl }
       go false few = record { events = [] ∷ []; reply = it.Begun; histories = refl; so = tt; printed = refl; next = refl }
 
-  turn_tells : (o : Option PastWorld) (command : Command) → Tells in_script number o (worlds_in_turn o number command) (turn_of past_setting o number command)
+  turn_tells : (o : Option PastWorld) (command : Command) → Tells (in_script (Means command)) number o (worlds_in_turn o number command) (turn_of past_setting o number command)
   unfolding turn_of
   turn_tells None (Genesis members byzantine) = genesis_tells members byzantine
-  turn_tells None (Submit id client serial payload) = none_tells
-  turn_tells None (Raw id bytes) = none_tells
-  turn_tells None (Show id block) = none_tells
-  turn_tells None (Tick id count) = none_tells
-  turn_tells None (Deliver ranges) = none_tells
-  turn_tells None (Flush only) = none_tells
-  turn_tells None (Propose from to view client serial payload) = none_tells
-  turn_tells None (Vote from to kind view k) = none_tells
-  turn_tells None (Lie from to bytes) = none_tells
-  turn_tells None (Seal id bytes) = none_tells
-  turn_tells (Some w) command = some_tells w (worlds_in number w command) (turn_in past_setting number w command) (command_tells w command)
+  turn_tells None (Submit id client serial payload) = none_tells (Means (Submit id client serial payload))
+  turn_tells None (Raw id bytes) = none_tells (Means (Raw id bytes))
+  turn_tells None (Show id block) = none_tells (Means (Show id block))
+  turn_tells None (Tick id count) = none_tells (Means (Tick id count))
+  turn_tells None (Deliver ranges) = none_tells (Means (Deliver ranges))
+  turn_tells None (Flush only) = none_tells (Means (Flush only))
+  turn_tells None (Propose from to view client serial payload) = none_tells (Means (Propose from to view client serial payload))
+  turn_tells None (Vote from to kind view k) = none_tells (Means (Vote from to kind view k))
+  turn_tells None (Lie from to bytes) = none_tells (Means (Lie from to bytes))
+  turn_tells None (Seal id bytes) = none_tells (Means (Seal id bytes))
+  turn_tells (Some w) command = some_tells (Means command) w (worlds_in number w command) (turn_in past_setting number w command) (command_tells w command)
 
   -- A LINE
-  said_tells : (o : Option PastWorld) (m : Meaning) → Tells in_script number o (worlds_said o number m) (said (turn_of past_setting) o number m)
-  said_tells o Nothing = replies number in_script o (said (turn_of past_setting) o number Nothing) it.Silent refl refl tt
+  said_tells : (o : Option PastWorld) (m : Meaning) → Tells (in_script m) number o (worlds_said o number m) (said (turn_of past_setting) o number m)
+  said_tells o Nothing = replies number (in_script Nothing) o (said (turn_of past_setting) o number Nothing) it.Silent refl refl tt
   said_tells o (Means command) = turn_tells o command
-  said_tells o (Wrong (stop_of.Malformed place)) = replies number in_script o (said (turn_of past_setting) o number (Wrong (stop_of.Malformed place))) (it.Malformed place) refl (λ o. refl) tt
-  said_tells o (Wrong stop_of.NotBuilt) = replies number in_script o (said (turn_of past_setting) o number (Wrong stop_of.NotBuilt)) it.NotBuilt refl (λ o. refl) tt
+  said_tells o (Wrong (stop_of.Malformed place)) = replies number (in_script (Wrong (stop_of.Malformed place))) o (said (turn_of past_setting) o number (Wrong (stop_of.Malformed place))) (it.Malformed place) refl (λ o. refl) tt
+  said_tells o (Wrong stop_of.NotBuilt) = replies number (in_script (Wrong stop_of.NotBuilt)) o (said (turn_of past_setting) o number (Wrong stop_of.NotBuilt)) it.NotBuilt refl (λ o. refl) tt
 
-  limit_tells : (o : Option PastWorld) (limit : ℕ) → Tells in_script number o [] (limit_turn number limit)
+  limit_tells : (m : Meaning) (o : Option PastWorld) (limit : ℕ) → Tells (in_script m) number o [] (limit_turn number limit)
   unfolding limit_text
-  limit_tells o limit = replies number in_script o (limit_turn number limit) (it.Limited limit) refl (λ o. refl) tt
+  limit_tells m o limit = replies number (in_script m) o (limit_turn number limit) (it.Limited limit) refl (λ o. refl) tt
 
-  pub line_tells : (o : Option PastWorld) (line : List ℕ) → Tells in_script number o (worlds_in_line o number line) (line_turn (turn_of past_setting) o number line)
+  pub line_tells : (o : Option PastWorld) (line : List ℕ) → Tells (in_script (meaning line)) number o (worlds_in_line o number line) (line_turn (turn_of past_setting) o number line)
   unfolding line_turn worlds_in_line
   line_tells o line = go (nat_lt max_lines number) (nat_lt max_line (length line))
     where
       go : (t u : Bool)
-          → Tells in_script number o (cond t [] (cond u [] (worlds_said o number (meaning line))))
+          → Tells (in_script (meaning line)) number o (cond t [] (cond u [] (worlds_said o number (meaning line))))
           (cond t (limit_turn number max_lines) (cond u (limit_turn number max_line) (said (turn_of past_setting) o number (meaning line))))
-      go true u = limit_tells o max_lines
-      go false true = limit_tells o max_line
+      go true u = limit_tells (meaning line) o max_lines
+      go false true = limit_tells (meaning line) o max_line
       go false false = said_tells o (meaning line)
 
 -- A SCRIPT
@@ -157,23 +157,23 @@ record LinesTell (Are : List Part → Type 0) (o : Option PastWorld) (number : �
   text : r.text ≡ parts_text number parts ++ end_text r.ending (last_of o within)
 
 -- a line's turn, and the run from the world after it
-line_then : (o : Option PastWorld) (number : ℕ) (here : List (Option PastWorld)) (turn : Turn (Option PastWorld)) (within : Option PastWorld → List (Option PastWorld)) (Are : Option PastWorld → List Part → Type 0)
-    (rest : Option PastWorld → Run) → Tells in_script number o here turn → ((next : Option PastWorld) → LinesTell (Are next) next (number + 1) (within next) (rest next))
-    → LinesTell (BeginWith (IsPartOf o here) turn.next Are) o number (here ++ worlds_after turn.next within) (went turn.printed turn.next rest)
-line_then o number here turn within Are rest tells more = go turn.printed turn.next tells.printed tells.next
+line_then : (m : Meaning) (o : Option PastWorld) (number : ℕ) (here : List (Option PastWorld)) (turn : Turn (Option PastWorld)) (within : Option PastWorld → List (Option PastWorld)) (Are : Option PastWorld → List Part → Type 0)
+    (rest : Option PastWorld → Run) → Tells (in_script m) number o here turn → ((next : Option PastWorld) → LinesTell (Are next) next (number + 1) (within next) (rest next))
+    → LinesTell (BeginWith (IsPartOf m o here) turn.next Are) o number (here ++ worlds_after turn.next within) (went turn.printed turn.next rest)
+line_then m o number here turn within Are rest tells more = go turn.printed turn.next tells.printed tells.next
   where
     part : Part
     part = record { events = tells.events; reply = tells.reply }
 
-    own : IsPartOf o here part
+    own : IsPartOf m o here part
     own = record { histories = tells.histories; so = tells.so }
 
     -- the history where the line ends
     reached : told_in (last_of o here) ≡ last_of (told_in o) (histories_after (told_in o) part.events)
     reached = sym (last-map told_in o here) ∙ ap (last_of (told_in o)) tells.histories
 
-    go : (printed : List ℕ) (r : Result (Option PastWorld) Ending) → printed ≡ part_text number part → GoesTo in_script.EndsBy r (last_of o here)
-        → LinesTell (BeginWith (IsPartOf o here) r Are) o number (here ++ worlds_after r within) (went printed r rest)
+    go : (printed : List ℕ) (r : Result (Option PastWorld) Ending) → printed ≡ part_text number part → GoesTo IsEarly r (last_of o here)
+        → LinesTell (BeginWith (IsPartOf m o here) r Are) o number (here ++ worlds_after r within) (went printed r rest)
     go printed (Ok next) is to =
         let later = more next in
         let h = told_in o in
@@ -202,7 +202,7 @@ lines_tell : (ls : List (List ℕ)) (o : Option PastWorld) (number : ℕ) → Li
 unfolding run worlds_in_lines AreParts
 lines_tell [] o number = record { parts = []; each = refl; histories = refl; text = refl }
 lines_tell (line ∷ more) o number =
-    line_then o number (worlds_in_line o number line) (line_turn (turn_of past_setting) o number line) (λ next. worlds_in_lines more next (number + 1)) (λ next. AreParts more next (number + 1))
+    line_then (meaning line) o number (worlds_in_line o number line) (line_turn (turn_of past_setting) o number line) (λ next. worlds_in_lines more next (number + 1)) (λ next. AreParts more next (number + 1))
     (λ next. run (turn_of past_setting) (closing_of past_setting) more next (number + 1)) (line_tells number o line) (λ next. lines_tell more next (number + 1))
 
 pub every_text_told : EveryTextIsTold

@@ -6,6 +6,9 @@ use Rattle.std.proofs.lemmas.List.{append-nil, append_assoc, reverse-append}
 use Rattle.safety_model.specs.Blocks.{Block}
 use Rattle.safety_model.specs.Facts.{History, Proof}
 use Rattle.safety_model.specs.declared.fact.Fact.{Fact}
+use Rattle.script.specs.declared.command.Command.TheVariants as command_of
+use Rattle.script.specs.declared.command.Meaning.{Meaning}
+use Rattle.script.specs.declared.command.Meaning.TheVariants.{Means}
 use Rattle.script.specs.declared.command.Range.{Range}
 use Rattle.script_play.specs.declared.ending.Ending.{Ending}
 use Rattle.script_play.specs.declared.ending.Ending.TheVariants.{Limit}
@@ -69,18 +72,22 @@ length_pushed (y ∷ xs) x = ap (λ n. suc n) (length_pushed xs x)
 abbrev pub IsEarly : Ending → Type 0
 IsEarly ending = (o : Option PastWorld) → end_text ending o ≡ []
 
--- the world in which a turn is told, and how the turn may end the run
+-- what the line of a turn means, the world in which it is told, and how it may end the run
 pub record Way (W : Type 0) : Type 1 where
+  pub means : Meaning
   pub sees : W → Option PastWorld
   pub EndsBy : Ending → Type 0
 
 -- a turn in a world, which the network's limit alone ends
-abbrev pub in_world : Way PastWorld
-in_world = record { sees = λ w. Some w; EndsBy = λ ending. ending ≡ Limit most_entries }
+abbrev pub IsNetworkLimit : Ending → Type 0
+IsNetworkLimit ending = ending ≡ Limit most_entries
+
+abbrev pub in_world : Meaning → Way PastWorld
+in_world m = record { means = m; sees = λ w. Some w; EndsBy = IsNetworkLimit }
 
 -- a turn of a script
-abbrev pub in_script : Way (Option PastWorld)
-in_script = record { sees = λ o. o; EndsBy = IsEarly }
+abbrev pub in_script : Meaning → Way (Option PastWorld)
+in_script m = record { means = m; sees = λ o. o; EndsBy = IsEarly }
 
 -- the turn leads to the last of its worlds, or ends the run
 abbrev pub GoesTo : {W : Type 0} → (Ending → Type 0) → Result W Ending → W → Type 0
@@ -92,13 +99,13 @@ pub record Tells {W : Type 0} (way : Way W) (number : ℕ) (w : W) (within : Lis
   pub events : List (List Fact)
   pub reply : Reply
   pub histories : map (λ w. told_in (way.sees w)) within ≡ histories_after (told_in (way.sees w)) events
-  pub so : IsSo (way.sees (last_of w within)) reply
+  pub so : IsSo way.means (way.sees (last_of w within)) reply
   pub printed : turn.printed ≡ blocks_text number events ++ reply_text number reply
   pub next : GoesTo way.EndsBy turn.next (last_of w within)
 
 module _ (number : ℕ) where
   -- the reply alone
-  pub replies : {W : Type 0} (way : Way W) (w : W) (turn : Turn W) (reply : Reply) → turn.printed ≡ reply_text number reply → GoesTo way.EndsBy turn.next w → IsSo (way.sees w) reply → Tells way number w [] turn
+  pub replies : {W : Type 0} (way : Way W) (w : W) (turn : Turn W) (reply : Reply) → turn.printed ≡ reply_text number reply → GoesTo way.EndsBy turn.next w → IsSo way.means (way.sees w) reply → Tells way number w [] turn
   replies way w turn reply printed next so = record { events = []; reply = reply; histories = refl; so = so; printed = printed; next = next }
 
   -- AN EVENT prints the block lines of its facts, and ends the run where the network is past its limit
@@ -140,20 +147,21 @@ module _ (number : ℕ) where
   pub delivery_ends : (k : ℕ) (e : Entry) (w : PastWorld) → IsEvent w (after_delivery k e w) (delivery past_setting number k e w)
   delivery_ends k e w = letter_ends k e w (node_at e.to w.nodes)
 
+module _ (number : ℕ) (m : Meaning) where
   -- an event, and what follows it
   ends_then : (w after : PastWorld) (facts : List Fact) (printed : List ℕ) (r : Result PastWorld Ending) (within : PastWorld → List PastWorld) (rest : PastWorld → Turn PastWorld)
-      → after.told ≡ reverse facts ++ w.told → Ends after facts printed r → ((next : PastWorld) → Tells in_world number next (within next) (rest next))
-      → Tells in_world number w (after ∷ worlds_after r within) (then_on printed r rest)
+      → after.told ≡ reverse facts ++ w.told → Ends number after facts printed r → ((next : PastWorld) → Tells (in_world m) number next (within next) (rest next))
+      → Tells (in_world m) number w (after ∷ worlds_after r within) (then_on printed r rest)
   ends_then w after facts printed (Ok next) within rest grown ends more =
       let later = more next in
       let front : List ℕ = flat_map (fact_text number) facts in
       record {
         events = facts ∷ later.events;
         reply = later.reply;
-        so = subst (λ (v : PastWorld). IsSo (Some (last_of v (within next))) later.reply) ends.0 later.so;
+        so = subst (λ (v : PastWorld). IsSo m (Some (last_of v (within next))) later.reply) ends.0 later.so;
         histories = ap₂ (λ h hs. h ∷ hs) grown (later.histories ∙ ap (λ (h : History). histories_after h later.events) (ap (λ (v : PastWorld). v.told) ends.0 ∙ grown));
         printed = ap₂ (λ (a b : List ℕ). a ++ b) ends.1 later.printed ∙ sym (append_assoc front (blocks_text number later.events) (reply_text number later.reply));
-        next = subst (λ (v : PastWorld). GoesTo in_world.EndsBy (rest next).next (last_of v (within next))) ends.0 later.next;
+        next = subst (λ (v : PastWorld). GoesTo IsNetworkLimit (rest next).next (last_of v (within next))) ends.0 later.next;
       }
   ends_then w after facts printed (Err ending) within rest grown ends more =
       let front : List ℕ = flat_map (fact_text number) facts in
@@ -167,28 +175,28 @@ module _ (number : ℕ) where
       }
 
   pub event_then : (w after : PastWorld) (turn : Turn PastWorld) (within : PastWorld → List PastWorld) (rest : PastWorld → Turn PastWorld)
-      → IsEvent w after turn → ((next : PastWorld) → Tells in_world number next (within next) (rest next))
-      → Tells in_world number w (after ∷ worlds_after turn.next within) (goes_on turn rest)
+      → IsEvent number w after turn → ((next : PastWorld) → Tells (in_world m) number next (within next) (rest next))
+      → Tells (in_world m) number w (after ∷ worlds_after turn.next within) (goes_on turn rest)
   event_then w after turn within rest is more = ends_then w after is.facts turn.printed turn.next within rest is.told is.ends more
 
   -- TICK
-  pub ticks_tell : (id n : ℕ) (w : PastWorld) → Tells in_world number w (in_ticks number id n w) (ticks past_setting number id n w)
+  pub ticks_tell : (id n : ℕ) (w : PastWorld) → Tells (in_world m) number w (in_ticks number id n w) (ticks past_setting number id n w)
   unfolding ticks in_ticks
-  ticks_tell id zero w = replies in_world w (ticks past_setting number id zero w) (it.Ticked id) refl refl tt
+  ticks_tell id zero w = replies number (in_world m) w (ticks past_setting number id zero w) (it.Ticked id) refl refl tt
   ticks_tell id (suc n) w =
       event_then w (after_tick w (node_at id w.nodes)) (tick_at past_setting number w (node_at id w.nodes)) (λ next. in_ticks number id n next) (λ next. ticks past_setting number id n next)
-      (tick_ends w (node_at id w.nodes)) (λ next. ticks_tell id n next)
+      (tick_ends number w (node_at id w.nodes)) (λ next. ticks_tell id n next)
 
   -- DELIVER
   deliveries_tell : (n k count : ℕ) (w : PastWorld) (within : PastWorld → List PastWorld) (rest : ℕ → PastWorld → Turn PastWorld)
-      → ((more : ℕ) (next : PastWorld) → Tells in_world number next (within next) (rest more next))
-      → Tells in_world number w (in_deliveries number n k w within) (deliveries past_setting number n k count w rest)
+      → ((more : ℕ) (next : PastWorld) → Tells (in_world m) number next (within next) (rest more next))
+      → Tells (in_world m) number w (in_deliveries number n k w within) (deliveries past_setting number n k count w rest)
   unfolding deliveries in_deliveries
   deliveries_tell zero k count w within rest more = more count w
   deliveries_tell (suc n) k count w within rest more = go (entry k w) (λ count next. deliveries_tell n (k + 1) count next within rest more)
     where
-      go : (o : Option Entry) → ((count : ℕ) (next : PastWorld) → Tells in_world number next (in_deliveries number n (k + 1) next within) (deliveries past_setting number n (k + 1) count next rest))
-          → Tells in_world number w
+      go : (o : Option Entry) → ((count : ℕ) (next : PastWorld) → Tells (in_world m) number next (in_deliveries number n (k + 1) next within) (deliveries past_setting number n (k + 1) count next rest))
+          → Tells (in_world m) number w
           (elim o [
             | None ↦ []
             | Some e ↦ after_delivery (k - 1) e w ∷ worlds_after (delivery past_setting number (k - 1) e w).next (λ next. in_deliveries number n (k + 1) next within)
@@ -197,45 +205,45 @@ module _ (number : ℕ) where
             | None ↦ refuses number (codes "no entry") w
             | Some e ↦ goes_on (delivery past_setting number (k - 1) e w) (λ next. deliveries past_setting number n (k + 1) (counted e w.nodes count) next rest)
           ])
-      go None later = replies in_world w (refuses number (codes "no entry") w) (it.Refused NoEntry) refl refl tt
+      go None later = replies number (in_world m) w (refuses number (codes "no entry") w) (it.Refused NoEntry) refl refl tt
       go (Some e) later =
           event_then w (after_delivery (k - 1) e w) (delivery past_setting number (k - 1) e w) (λ next. in_deliveries number n (k + 1) next within) (λ next. deliveries past_setting number n (k + 1) (counted e w.nodes count) next rest)
-          (delivery_ends (k - 1) e w) (later (counted e w.nodes count))
+          (delivery_ends number (k - 1) e w) (later (counted e w.nodes count))
 
-  pub deliver_tells : (ranges : List Range) (count : ℕ) (w : PastWorld) → Tells in_world number w (in_deliver number ranges w) (deliver_turn past_setting number ranges count w)
+  pub deliver_tells : (ranges : List Range) (count : ℕ) (w : PastWorld) → Tells (in_world m) number w (in_deliver number ranges w) (deliver_turn past_setting number ranges count w)
   unfolding deliver_turn in_deliver
-  deliver_tells [] count w = replies in_world w (says (deliver_text number count) w) (it.Came count) refl refl tt
+  deliver_tells [] count w = replies number (in_world m) w (says (deliver_text number count) w) (it.Came count) refl refl tt
   deliver_tells (range ∷ ranges) count w =
       deliveries_tell (range.last + 1 - range.first) range.first count w (λ next. in_deliver number ranges next) (λ more next. deliver_turn past_setting number ranges more next) (λ more next. deliver_tells ranges more next)
 
   -- FLUSH
   flushes_tell : (w : PastWorld) (o : Option ℕ) (count : ℕ) (within : PastWorld → List PastWorld) (rest : PastWorld → Turn PastWorld)
-      → ((next : PastWorld) → Tells in_world number next (within next) (rest next))
-      → Tells in_world number w (in_flushes number w o within) (flushes past_setting number w o (says (flush_text number count) w) rest)
-  flushes_tell w None count within rest more = replies in_world w (says (flush_text number count) w) (it.Flushed count) refl refl tt
+      → ((next : PastWorld) → Tells (in_world m) number next (within next) (rest next))
+      → Tells (in_world m) number w (in_flushes number w o within) (flushes past_setting number w o (says (flush_text number count) w) rest)
+  flushes_tell w None count within rest more = replies number (in_world m) w (says (flush_text number count) w) (it.Flushed count) refl refl tt
   flushes_tell w (Some k) count within rest more = go (slice_get w.network k)
     where
       go : (o : Option Entry)
-          → Tells in_world number w (elim o [ None ↦ [] | Some e ↦ after_delivery k e w ∷ worlds_after (delivery past_setting number k e w).next within ])
+          → Tells (in_world m) number w (elim o [ None ↦ [] | Some e ↦ after_delivery k e w ∷ worlds_after (delivery past_setting number k e w).next within ])
           (elim o [ None ↦ says (flush_text number count) w | Some e ↦ goes_on (delivery past_setting number k e w) rest ])
-      go None = replies in_world w (says (flush_text number count) w) (it.Flushed count) refl refl tt
-      go (Some e) = event_then w (after_delivery k e w) (delivery past_setting number k e w) within rest (delivery_ends k e w) more
+      go None = replies number (in_world m) w (says (flush_text number count) w) (it.Flushed count) refl refl tt
+      go (Some e) = event_then w (after_delivery k e w) (delivery past_setting number k e w) within rest (delivery_ends number k e w) more
 
-  pub flush_tells : (only : Option (List ℕ)) (n count : ℕ) (w : PastWorld) → Tells in_world number w (in_flush number only n w) (flush_turn past_setting number only n count w)
+  pub flush_tells : (only : Option (List ℕ)) (n count : ℕ) (w : PastWorld) → Tells (in_world m) number w (in_flush number only n w) (flush_turn past_setting number only n count w)
   unfolding flush_turn in_flush
-  flush_tells only zero count w = replies in_world w (says (flush_text number count) w) (it.Flushed count) refl refl tt
+  flush_tells only zero count w = replies number (in_world m) w (says (flush_text number count) w) (it.Flushed count) refl refl tt
   flush_tells only (suc n) count w =
       flushes_tell w (position (is_waiting w.nodes only) w.network) count (λ next. in_flush number only n next) (λ next. flush_turn past_setting number only n (count + 1) next) (λ next. flush_tells only n (count + 1) next)
 
   -- SUBMIT and RAW
-  pub submit_tells : (word : List ℕ) (w : PastWorld) (node : Node PastNode) (bytes : List ℕ) → Tells in_world number w (after_submit w node bytes ∷ []) (submit_turn number word w node bytes)
+  pub submit_tells : (word : List ℕ) (w : PastWorld) (node : Node PastNode) (bytes : List ℕ) → Tells (in_world m) number w (after_submit w node bytes ∷ []) (submit_turn number word w node bytes)
   submit_tells word w node bytes = record { events = [] ∷ []; reply = it.Answered word node.id (answer node.pool bytes); histories = refl; so = tt; printed = refl; next = refl }
 
   -- SHOW
-  pub show_tells : (w : PastWorld) (node : Node PastNode) (block : ℕ) → node_at node.id w.nodes ≡ Some node → Tells in_world number w [] (show_turn number w node block)
-  show_tells w node block at = go (slice_get node.ledger block) refl
+  pub show_tells : (w : PastWorld) (node : Node PastNode) (block : ℕ) → m ≡ Means (command_of.Show node.id block) → node_at node.id w.nodes ≡ Some node → Tells (in_world m) number w [] (show_turn number w node block)
+  show_tells w node block asked at = go (slice_get node.ledger block) refl
     where
-      go : (o : Option (Block × Proof)) → slice_get node.ledger block ≡ o → Tells in_world number w [] (shows number w node o)
-      go None is = replies in_world w (refuses number (codes "no block") w) (it.Refused NoBlock) refl refl tt
+      go : (o : Option (Block × Proof)) → slice_get node.ledger block ≡ o → Tells (in_world m) number w [] (shows number w node o)
+      go None is = replies number (in_world m) w (refuses number (codes "no block") w) (it.Refused NoBlock) refl refl tt
       go (Some stored) is =
-          replies in_world w (says (show_text number node.id stored.0 stored.1) w) (it.Shown node.id stored.0 stored.1) refl refl (record { node = node; at = at; place = block; stands = is })
+          replies number (in_world m) w (says (show_text number node.id stored.0 stored.1) w) (it.Shown node.id stored.0 stored.1) refl refl (record { node = node; at = at; place = block; stands = is; asked = asked })

@@ -22,7 +22,7 @@ use Rattle.world_safety.specs.TooMany.{BeginsNone, EndsOnlyWhereTooMany, EndsWhe
 use Rattle.world_safety.specs.Within.{PastWorld, worlds_in}
 use Rattle.world_safety.specs.Telling.{last_of}
 use Rattle.world_safety.proofs.Telling.{command_tells}
-use Rattle.world_safety.proofs.Tells.{GoesTo, in_world}
+use Rattle.world_safety.proofs.Tells.{GoesTo, IsNetworkLimit}
 
 -- a run from this world, and one behind a turn
 abbrev played : List (List ℕ) → Option PastWorld → ℕ → Run
@@ -40,7 +40,7 @@ module _ (number config count bound : ℕ) where
   EndsSo r = r.ending ≡ TooManyFaulty number config count bound
 
   -- IN A WORLD no run ends so
-  turn_not : (printed : List ℕ) (r : Result PastWorld Ending) (last : PastWorld) (rest : Option PastWorld → Run) → GoesTo in_world.EndsBy r last
+  turn_not : (printed : List ℕ) (r : Result PastWorld Ending) (last : PastWorld) (rest : Option PastWorld → Run) → GoesTo IsNetworkLimit r last
       → ((next : PastWorld) → EndsSo (rest (Some next)) → ⊥) → EndsSo (behind (then_on printed r some_world) rest) → ⊥
   turn_not printed (Ok next) last rest to not is = not next is
   turn_not printed (Err ending) last rest to not is = absurd (cc)

@@ -7,6 +7,10 @@ use Rattle.safety_model.specs.Facts.{History, Proof}
 use Rattle.safety_model.specs.declared.fact.Fact.{Fact}
 use Rattle.signer_edge.specs.declared.seals.Seal.{Seal}
 use Rattle.line_flow.specs.Lines.{lines}
+use Rattle.script.specs.Grammar.{meaning}
+use Rattle.script.specs.declared.command.Command.TheVariants as command_of
+use Rattle.script.specs.declared.command.Meaning.{Meaning}
+use Rattle.script.specs.declared.command.Meaning.TheVariants.{Means}
 use Rattle.script_play.specs.declared.ending.Ending.{Ending}
 use Rattle.script_play.specs.declared.ending.Ending.TheVariants.{Done}
 use Rattle.script_play.specs.Runs.{line_turn}
@@ -103,25 +107,35 @@ reply_text number NotBuilt = not_built_text number
 
 -- WHAT A REPLY TELLS of a world
 
--- this stands in the ledger of the world's node of this id
-pub record IsStored (w : PastWorld) (id : ℕ) (b : Block) (proof : Proof) : Type 0 where
+-- who sends to whom in the line of a Byzantine member
+abbrev pub route_in : Meaning → Option (ℕ × ℕ)
+route_in (Means (command_of.Propose from to view client serial payload)) = Some (from, to)
+route_in (Means (command_of.Vote from to kind view k)) = Some (from, to)
+route_in (Means (command_of.Lie from to bytes)) = Some (from, to)
+route_in _ = None
+
+-- the line shows the block at this place of the ledger of the world's node of this id
+pub record IsStored (m : Meaning) (w : PastWorld) (id : ℕ) (b : Block) (proof : Proof) : Type 0 where
   pub node : Node PastNode
   pub at : node_at id w.nodes ≡ Some node
   pub place : ℕ
   pub stands : slice_get node.ledger place ≡ Some (b, proof)
+  pub asked : m ≡ Means (command_of.Show id place)
 
--- the last entry of the network has this number, and a Byzantine member sent it
-pub record IsLastSent (w : PastWorld) (number : ℕ) : Type 0 where
+-- the last entry of the network has this number, and is of the line's own sender, a Byzantine member, to its receiver
+pub record IsLastSent (m : Meaning) (w : PastWorld) (number : ℕ) : Type 0 where
   pub last : Entry
   pub at : entry number w ≡ Some last
   pub count : length w.network ≡ number
+  pub route : route_in m ≡ Some (last.from, last.to)
   pub by : IsTrue (is_in last.from w.config.members && is_in last.from w.byzantine)
 
--- the last seal of the box has this place, and is of one who may sign anything
-pub record IsLastSeal (w : PastWorld) (place : ℕ) : Type 0 where
+-- the last seal of the box has this place, and is the line's own, of one who may sign anything
+pub record IsLastSeal (m : Meaning) (w : PastWorld) (place : ℕ) : Type 0 where
   pub last : Seal
   pub at : slice_get w.seals place ≡ Some last
   pub count : length w.seals ≡ place + 1
+  pub asked : m ≡ Means (command_of.Seal last.signer last.statement)
   pub by : IsTrue (signs_anything w.config.members w.byzantine last.signer)
 
 -- there is a world, and this is so of it
@@ -129,13 +143,13 @@ abbrev pub HasWorld : (PastWorld → Type 0) → Option PastWorld → Type 0
 HasWorld Is None = ⊥
 HasWorld Is (Some w) = Is w
 
--- what a reply tells is so, where this is the last world of its line
-abbrev pub IsSo : Option PastWorld → Reply → Type 0
-IsSo o (Shown id b proof) = HasWorld (λ w. IsStored w id b proof) o
-IsSo o (Lied word sent) = HasWorld (λ w. IsLastSent w sent) o
-IsSo o (Sealed place) = HasWorld (λ w. IsLastSeal w place) o
-IsSo o (Faulty config count bound) = bound < count
-IsSo o _ = ⊤
+-- what a reply tells is so, where its line means this, and this is the last world of the line
+abbrev pub IsSo : Meaning → Option PastWorld → Reply → Type 0
+IsSo m o (Shown id b proof) = HasWorld (λ w. IsStored m w id b proof) o
+IsSo m o (Lied word sent) = HasWorld (λ w. IsLastSent m w sent) o
+IsSo m o (Sealed place) = HasWorld (λ w. IsLastSeal m w place) o
+IsSo m o (Faulty config count bound) = bound < count
+IsSo m o _ = ⊤
 
 -- THE PARTS OF A TEXT
 
@@ -151,11 +165,11 @@ blocks_text number events = flat_map (λ facts. flat_map (fact_text number) fact
 abbrev pub part_text : ℕ → Part → List ℕ
 part_text number part = blocks_text number part.events ++ reply_text number part.reply
 
--- These are the worlds of a line that began with this one: they have the histories of its events, and what its reply tells is
--- so in the last of them, or in the one with which it began where it has none.
-pub record IsPartOf (o : Option PastWorld) (here : List (Option PastWorld)) (part : Part) : Type 0 where
+-- These are the worlds of a line that means this and began with this world: they have the histories of its events, and what its
+-- reply tells is so in the last of them, or in the one with which it began where it has none.
+pub record IsPartOf (m : Meaning) (o : Option PastWorld) (here : List (Option PastWorld)) (part : Part) : Type 0 where
   pub histories : map told_in here ≡ histories_after (told_in o) part.events
-  pub so : IsSo (last_of o here) part.reply
+  pub so : IsSo m (last_of o here) part.reply
 
 -- the parts behind a turn: none where it ended the run
 abbrev pub AreLater : Result (Option PastWorld) Ending → (Option PastWorld → List Part → Type 0) → List Part → Type 0
@@ -171,7 +185,7 @@ BeginWith First next rest (part ∷ parts) = First part × AreLater next rest pa
 unfoldable pub AreParts : List (List ℕ) → Option PastWorld → ℕ → List Part → Type 0
 AreParts [] o number parts = parts ≡ []
 AreParts (line ∷ more) o number parts =
-    BeginWith (IsPartOf o (worlds_in_line o number line)) (line_turn (turn_of past_setting) o number line).next (λ next parts. AreParts more next (number + 1) parts) parts
+    BeginWith (IsPartOf (meaning line) o (worlds_in_line o number line)) (line_turn (turn_of past_setting) o number line).next (λ next parts. AreParts more next (number + 1) parts) parts
 
 -- THE TEXT OF A SCRIPT
 
