@@ -1,5 +1,4 @@
 use Rattle.std.proofs.Common.{◌≡◌, map, take, filter, not}
-use Rattle.node_model.specs.Cores.{Core}
 use Rattle.ord_types.specs.Members.{is_in}
 use Rattle.world_model.specs.Cores.{core_setting}
 use Rattle.world_model.specs.Turns.{first_node}

@@ -1,4 +1,4 @@
-use Rattle.std.proofs.Common.{ap, sym, ◌∙◌, [], arith}
+use Rattle.std.proofs.Common.{ap, sym, [], arith}
 use Rattle.std.specs.Prelude.{string_bytes}
 use Rattle.std.proofs.lemmas.List.{append-nil, length-map}
 use Rattle.world_run.specs.Entries.{entry_of}
