@@ -60,8 +60,9 @@ pub fn run_offline<S: Source, K: Sink>(
         Took (K.content out.old) (K.content out.new) (run_of [] (told (S.left source.old))).text }
     ensures all_read { result ≡ 0 → IsSome (S.left source.old) → told (S.left source.new) ≡ [] }
 
-    // In every world of the script, the one after each of its events, what the nodes did is a run by the rules, every
-    // message rests on what its sender did, and, where no two texts collide, the ledgers agree.
+    // In every world of the script, the one after each of its events, at most f of the members are Byzantine; what the others
+    // did is a run by the rules, every message and every signature of theirs rests on what its maker did, and, where no two
+    // texts collide, the ledgers agree.
     ensures safe { asked (map string_bytes words.now) ≡ asked_for.World → IsSome (S.left source.old) →
         AllByRecursion IsSafe (all_worlds_of [] (told (S.left source.old))) }
     // Each delivered block has a certificate: a quorum's signatures, of one view, each of them accepted.
