@@ -11,7 +11,8 @@ use Rattle.world_model.specs.Turns.{turn_of}
 use Rattle.world_safety.specs.Telling.{last_of}
 use Rattle.world_safety.specs.Within.{PastWorld, WorldsAreAmongAll, all_worlds_of, worlds_in_line, worlds_in_lines}
 use Rattle.world_safety.proofs.Lists.{all_last, all_parts}
-use Rattle.world_safety.proofs.Telling.{GoesTo, line_tells}
+use Rattle.world_safety.proofs.Telling.{line_tells}
+use Rattle.world_safety.proofs.Tells.{GoesTo}
 
 -- what holds of all worlds holds of those between the lines
 module _ (P : Option PastWorld → Type 0) where
@@ -22,7 +23,7 @@ module _ (P : Option PastWorld → Type 0) where
       more next (subst P (sym to) (all_last P o here holds parts.0)) parts.1
   behind o here (Err ending) within between holds to all more = tt
 
-  between_lines : (ls : List (List ℕ)) (o : Option PastWorld) (number : ℕ) → P o → AllByRecursion P (worlds_in_lines ls o number) → AllByRecursion P (worlds (turn_of past_setting) ls o number)
+  pub between_lines : (ls : List (List ℕ)) (o : Option PastWorld) (number : ℕ) → P o → AllByRecursion P (worlds_in_lines ls o number) → AllByRecursion P (worlds (turn_of past_setting) ls o number)
   unfolding worlds worlds_in_lines
   between_lines [] o number holds all = (holds, tt)
   between_lines (line ∷ more) o number holds all = (

@@ -1,5 +1,5 @@
 -- An accepted block fits.
-use Rattle.std.proofs.Common.{◌≡◌, ℕ, ◌+◌, ◌≤◌, Bool, true, false, ◌||◌, ◌&&◌, List, [], ◌∷◌, length, cond, refl, sym, subst, ap, ◌∙◌, inl, inr, Option, Some, None, arith}
+use Rattle.std.proofs.Common.{◌≡◌, ℕ, ◌+◌, ◌≤◌, ◌^◌, Bool, true, false, ◌||◌, ◌&&◌, List, [], ◌∷◌, length, cond, refl, sym, subst, ap, ◌∙◌, inl, inr, Option, Some, None, arith}
 use Rattle.std.specs.Prelude.{◌==◌, not, nat_le, is_none, IfSome}
 use Rattle.std.specs.List.{All, AllByRecursion}
 use Rattle.std.specs.Str.{bytes_eq}
@@ -37,6 +37,7 @@ pub record PlaceFits (place : Place) (v : ℕ) : Type 0 where
   pub members : HasIdsSpelling place.config.members
   pub last : IsDigest place.last
   pub decided : place.last_meta.decided + 1 ≤ place.height
+  pub small : place.height ≤ 2 ^ 62
   pub last_cert : (cert : Cert) → place.last_cert ≡ Some cert → CertFits cert
 
 turn_small : (place : Place) (v : ℕ) → place.last_meta.decided + 1 ≤ place.height → turn place v ≤ place.height
@@ -64,29 +65,37 @@ carried_fits place v fits = go (is_at_start place) place.last_cert fits.last_cer
     go false None last = record { spelled = tt; signers = no_ids }
     go false (Some cert) last = let fits = last cert refl in record { spelled = fits.spelled; signers = fits.signers }
 
--- the block that a member makes at a place
-made_fits : (place : Place) (v : ℕ) (rs : List Request) → PlaceFits place v → All HasRequestSpelling rs → is_next_block place (proposal place v rs) ≡ true → FitsAt place.height (proposal place v rs)
+-- a block that is made at a place, for a view, where the format has room for it
+pub block_fits_at : (place : Place) (v view : ℕ) (rs : List Request) → PlaceFits place v → IsNumber view → IsNumber place.height → length rs ≤ 1000 → All HasRequestSpelling rs
+    → FitsAt place.height (proposal place view rs)
 unfolding content_hash meta_hash
-made_fits place v rs fits small is =
-    let next = next_is place (proposal place v rs) is in
-    let le = turn_small place v fits.decided in
-    let below = next.below in
+block_fits_at place v view rs fits viewed below few small =
+    let le = turn_small place view fits.decided in
     let carried = carried_fits place v fits in
     record {
       number = below;
       decided = le;
       spelled = record {
         header = record { number = below; previous = fits.last; content = length-sha256 _; meta = length-sha256 _ };
-        requests = record { count = next.few; requests = recursion_from_All HasRequestSpelling rs small };
+        requests = record { count = few; requests = recursion_from_All HasRequestSpelling rs small };
         meta = record {
           config = fits.config;
-          view = subst IsNumber (sym fits.view) (omega arith);
+          view = viewed;
           decided = omega arith;
           blacklist = record { count = omega arith; different = tt; words = tt };
           signers = carried.signers;
         };
       };
     }
+
+pub view_fits : (place : Place) (v : ℕ) → PlaceFits place v → IsNumber v
+view_fits place v fits = subst IsNumber (sym fits.view) (omega arith)
+
+-- the block that a member makes at its place
+made_fits : (place : Place) (v : ℕ) (rs : List Request) → PlaceFits place v → All HasRequestSpelling rs → is_next_block place (proposal place v rs) ≡ true → FitsAt place.height (proposal place v rs)
+made_fits place v rs fits small is =
+    let next = next_is place (proposal place v rs) is in
+    block_fits_at place v v rs fits (view_fits place v fits) next.below next.few small
 
 proposed_is : (x b : Block) (may enough next t : Bool) → (may && enough && next) ≡ t → cond t (Some x) None ≡ Some b → (x ≡ b) × (next ≡ true)
 proposed_is x b may enough next true is h = (cc, (and_parts (may && enough) next is).1)

@@ -27,6 +27,9 @@ all_filter P test (x ∷ xs) all = go (test x) refl (all_filter P test xs all.1)
     go true is rest = ((all.0, is), rest)
     go false is rest = rest
 
+pub all_within : {X : Type 0} (P : X → Type 0) (test : X → Bool) (xs : List X) → AllByRecursion P xs → AllByRecursion P (filter test xs)
+all_within P test xs all = all_map (λ x. P x × (test x ≡ true)) P (λ x both. both.0) (filter test xs) (all_filter P test xs all)
+
 pub all_mapped : {X Y : Type 0} (P : Y → Type 0) (f : X → Y) (xs : List X) → AllByRecursion (λ x. P (f x)) xs → AllByRecursion P (map f xs)
 all_mapped P f [] all = tt
 all_mapped P f (x ∷ xs) all = (all.0, all_mapped P f xs all.1)

@@ -1,20 +1,21 @@
 -- What a step of a node makes is allowed, and rests on facts.
-use Rattle.std.proofs.Common.{◌≡◌, ℕ, zero, suc, true, ◌||◌, List, [], ◌∷◌, ◌++◌, reverse, refl, sym, subst, ap, ◌∙◌, Option, Some, None, append-nil, arith}
+use Rattle.std.proofs.Common.{◌≡◌, ℕ, zero, suc, true, false, List, [], ◌∷◌, ◌++◌, reverse, refl, sym, subst, ap, ◌∙◌, Option, Some, None, append-nil, arith}
 use Rattle.std.specs.Prelude.{◌==◌, not, nat_le, filter}
 use Rattle.std.specs.List.{All, AllByRecursion, flat_map}
 use Rattle.std.proofs.lemmas.Bool.{eq-eqb, le-leb, or_left, or_right}
 use Rattle.std.proofs.lemmas.List.{reverse-append}
 use Rattle.ord_types.specs.Grammar.{HasRequestSpelling, HasSigSpelling, IsDigest, IsNumber}
 use Rattle.ord_types.specs.Hashes.{block_hash}
-use Rattle.ord_types.specs.Members.{how_many, is_in, is_raft}
+use Rattle.ord_types.specs.Members.{is_in}
 use Rattle.ord_types.specs.declared.values.Cert.{Cert}
 use Rattle.ord_types.specs.declared.values.Proof.TheVariants as proof_of
-use Rattle.safety_model.specs.Blocks.{Block, Request}
+use Rattle.safety_model.specs.Blocks.{Block, Config, Request}
 use Rattle.safety_model.specs.Facts.{History}
 use Rattle.safety_model.specs.declared.fact.Fact.{Fact}
 use Rattle.safety_model.specs.declared.fact.Fact.TheVariants.{Accepted, Prepared, Delivered}
-use Rattle.safety_model.specs.State.{Setup, config_of, height, view}
+use Rattle.safety_model.specs.State.{Setup, config_of, delivered, height, view}
 use Rattle.safety_model.specs.Rules.{Allowed, IsRun, actor, bound_of, faulty}
+use Rattle.safety_model.proofs.Chains.{config_stays}
 use Rattle.safety_model.proofs.FactTests.{accepted_itself, prepared_itself}
 use Rattle.signer_edge.specs.Accepts.{Accepts}
 use Rattle.signer_edge.specs.Statements.{commit_text}
@@ -33,24 +34,21 @@ use Rattle.world_safety.proofs.Accepting.{acceptances_allowed, proposals_allowed
 use Rattle.world_safety.proofs.Preparing.{due_is, preparations_allowed}
 use Rattle.world_safety.proofs.Delivering.{deliveries_allowed, delivery_is, delivery_spelled}
 use Rattle.world_safety.proofs.Fits.{DeliveredFits, FactFits, FitsAt}
-use Rattle.world_safety.proofs.Fitting.{PlaceFits, acceptance_fits, proposal_fits}
-use Rattle.world_safety.proofs.Placing.{IsHonest, genesis_first, place_fits}
+use Rattle.world_safety.proofs.Fitting.{PlaceFits, acceptance_fits, proposal_fits, view_fits}
+use Rattle.world_safety.proofs.Backing.{IsBackedStatement, prepared_backed, statement_more}
+use Rattle.world_safety.proofs.Placing.{IsBounded, genesis_first, place_fits}
 use Rattle.world_safety.proofs.Sending.{commit_fits, hash_fits, prepare_fits, preprepare_fits}
 use Rattle.world_safety.proofs.Nodes.{IsGoodEvent, NodeStands, did_accept, did_deliver, did_prepare, event_came, ground_more, signed_commit, stands, stands_last}
 
-none_faulty : (ids : List ℕ) → how_many (λ member. is_in member []) ids ≡ 0
-none_faulty [] = refl
-none_faulty (id ∷ ids) = (let rest = none_faulty ids in omega arith)
-
-pub honest_bounded : (su : Setup) (h : History) (i : ℕ) → IsHonest su → Bounded su h i
-honest_bounded su h i honest =
-    let c = config_of su i h in
-    let P : List ℕ → Type 0 = λ byz. (is_raft c || not (is_in i byz)) ≡ true in
-    let Q : List ℕ → Type 0 = λ byz. (is_raft c || nat_le (faulty byz c) (bound_of c)) ≡ true in
-    let none = none_faulty c.members in
-    let few : Q [] = or_right _ _ (le-leb (faulty [] c) (bound_of c) (omega arith)) in
-    let right : P [] = or_right _ _ refl in
-    record { correct = subst P (sym honest.correct) right; bound = subst Q (sym honest.correct) few }
+-- a node that isn't Byzantine, where no more members are than the bound allows
+pub node_bounded : (su : Setup) (h : History) (i : ℕ) → IsBounded su → is_in i su.byzantine ≡ false → Bounded su h i
+node_bounded su h i bounded correct =
+    let stays : config_of su i h ≡ su.config = config_stays su.config (delivered i h) in
+    let few : nat_le (faulty su.byzantine su.config) (bound_of su.config) ≡ true = le-leb _ _ bounded.few in
+    record {
+      correct = or_right _ _ (ap not correct);
+      bound = or_right _ _ (subst (λ (c : Config). nat_le (faulty su.byzantine c) (bound_of c) ≡ true) (sym stays) few);
+    }
 
 -- all facts, with those that a step made so far
 abbrev pub told : History → Making PastNode → History
@@ -73,6 +71,7 @@ pub record MakingStands (su : Setup) (i : ℕ) (h : History) (m : Making PastNod
   pub node : NodeStands m.state.setup (told h m) m.state.id m.state.past
   pub posts : AllByRecursion (IsGoodPost (told h m) m.state.id) m.posts
   pub actors : AllByRecursion (λ f. (actor f == m.state.id) ≡ true) m.facts
+  pub signed : AllByRecursion (IsBackedStatement (told h m) m.state.id) m.signed
 
 told_more : (h : History) (facts : List Fact) (f : Fact) → f ∷ (reverse facts ++ h) ≡ reverse (facts ++ f ∷ []) ++ h
 told_more h facts f = ap (λ (g : History). g ++ h) (sym (reverse-append facts (f ∷ [])))
@@ -81,8 +80,9 @@ told_more h facts f = ap (λ (g : History). g ++ h) (sym (reverse-append facts (
 after_fact : (su : Setup) (i : ℕ) (h : History) (m : Making PastNode) → MakingStands su i h m
     → (f : Fact) (past : Past) (posts : List Post) (signed : List (List ℕ)) → Allowed m.state.setup (told h m) f → (actor f == m.state.id) ≡ true → FactFits f
     → NodeStands m.state.setup (f ∷ told h m) m.state.id past → AllByRecursion (IsGoodPost (f ∷ told h m) m.state.id) posts
+    → AllByRecursion (IsBackedStatement (f ∷ told h m) m.state.id) signed
     → MakingStands su i h (record { state = record { setup = m.state.setup; id = m.state.id; past = past }; facts = m.facts ++ f ∷ []; posts = m.posts ++ posts; signed = signed })
-after_fact su i h m st f past posts signed ok mine fits node good =
+after_fact su i h m st f past posts signed ok mine fits node good backed =
     let n = m.state in
     let is = told_more h m.facts f in
     let older = all_map (IsGoodPost (told h m) n.id) (IsGoodPost (f ∷ told h m) n.id) (λ post p. record { ground = ground_more (told h m) f n.id post.message p.ground; spelled = p.spelled }) m.posts st.posts in
@@ -96,7 +96,14 @@ after_fact su i h m st f past posts signed ok mine fits node good =
       node = subst (λ (g : History). NodeStands n.setup g n.id past) is node;
       posts = subst (λ (g : History). AllByRecursion (IsGoodPost g n.id) (m.posts ++ posts)) is (all_append (IsGoodPost (f ∷ told h m) n.id) m.posts posts older good);
       actors = all_append (λ f. (actor f == n.id) ≡ true) m.facts (f ∷ []) st.actors (mine, tt);
+      signed = subst (λ (g : History). AllByRecursion (IsBackedStatement g n.id) signed) is backed;
     }
+
+-- what was signed before stays backed
+signed_older : (su : Setup) (i : ℕ) (h : History) (m : Making PastNode) → MakingStands su i h m → (f : Fact) → AllByRecursion (IsBackedStatement (f ∷ told h m) m.state.id) m.signed
+signed_older su i h m st f =
+    let g = told h m in
+    all_map (IsBackedStatement g m.state.id) (IsBackedStatement (f ∷ g) m.state.id) (λ statement is. statement_more g f m.state.id statement is) m.signed st.signed
 
 -- a message to all others
 sent_all : (h : History) (i : ℕ) (members : List ℕ) (message : Message) → IsGoodMessage h i message → AllByRecursion (IsGoodPost h i) (to_all members i message)
@@ -119,14 +126,20 @@ place_height : (n : PastNode) → (place_in n).height ≡ height n.id (facts_of 
 unfolding place_in place_of
 place_height n = refl
 
-module _ (su : Setup) (i : ℕ) (h : History) (honest : IsHonest su) where
-  honest_in : (m : Making PastNode) → MakingStands su i h m → IsHonest m.state.setup
-  honest_in m st = subst IsHonest (sym st.setup) honest
+module _ (su : Setup) (i : ℕ) (h : History) (bounded : IsBounded su) (correct : is_in i su.byzantine ≡ false) where
+  bounded_in : (m : Making PastNode) → MakingStands su i h m → IsBounded m.state.setup
+  bounded_in m st = subst IsBounded (sym st.setup) bounded
+
+  -- the node is correct, and the bound holds
+  correct_in : (m : Making PastNode) → MakingStands su i h m → Bounded m.state.setup (told h m) m.state.id
+  correct_in m st =
+      node_bounded m.state.setup (told h m) m.state.id (bounded_in m st)
+      (subst (λ i. is_in i m.state.setup.byzantine ≡ false) (sym st.id) (subst (λ (su : Setup). is_in i su.byzantine ≡ false) (sym st.setup) correct))
 
   -- the node's place fits
   fits_in : (m : Making PastNode) → MakingStands su i h m → PlaceFits (place_in m.state) (view_in m.state).view
   unfolding place_in view_in view_of
-  fits_in m st = place_fits m.state.setup (told h m) m.state.id m.state.past (honest_in m st) st.node st.run st.fit
+  fits_in m st = place_fits m.state.setup (told h m) m.state.id m.state.past (bounded_in m st) st.node st.run st.fit
 
   -- ACCEPT, with a PrePrepare of the block, or with nothing before
   accept_stands : (m : Making PastNode) → MakingStands su i h m → (b : Block) (first : List Message)
@@ -146,7 +159,7 @@ module _ (su : Setup) (i : ℕ) (h : History) (honest : IsHonest su) where
       (all_map (IsGoodMessage (f ∷ told h m) n.id) (λ message. AllByRecursion (IsGoodPost (f ∷ told h m) n.id) (to_all place.config.members n.id message))
       (λ message is. sent_all (f ∷ told h m) n.id place.config.members message is) (first ++ prepare_message place w b ∷ []) messages) in
       after_fact su i h m st f (Did f (Some b) ∷ n.past) (flat_map (to_all place.config.members n.id) (first ++ prepare_message place w b ∷ [])) m.signed ok (eq-eqb n.id n.id refl) tt
-      (did_accept n.setup (told h m) n.id n.past place.config.number w.view place.height b fits st.node) sent
+      (did_accept n.setup (told h m) n.id n.past place.config.number w.view place.height b fits st.node) sent (signed_older su i h m st f)
 
   -- PREPARE
   prepare_stands : (m : Making PastNode) → MakingStands su i h m → (keys : Keys) → SignsFit keys → (d : List ℕ) → IsNumber (place_in m.state).height → IsDigest d
@@ -160,12 +173,15 @@ module _ (su : Setup) (i : ℕ) (h : History) (honest : IsHonest su) where
       let f = Prepared n.id place.config.number w.view place.height d in
       let commit = commit_message place w d (keys.signs m.signed) in
       let signed = m.signed ++ commit_text place.config.number w.view place.height d ∷ [] in
-      let fits = commit_fits place w d (keys.signs m.signed) (fits_in m st) number digest (signs m.signed) in
+      let here = fits_in m st in
+      let fits = commit_fits place w d (keys.signs m.signed) here number digest (signs m.signed) in
       let ground : has_ground (f ∷ told h m) n.id (message_of.Commit commit) ≡ true = or_left _ _ (prepared_itself n.id place.config.number w.view place.height d) in
       after_fact su i h m st f (Signed commit (keys.accepts signed) ∷ Did f None ∷ n.past) (to_all place.config.members n.id (message_of.Commit commit)) signed ok (eq-eqb n.id n.id refl) tt
       (signed_commit n.setup (f ∷ told h m) n.id (Did f None ∷ n.past) commit (keys.accepts signed)
       (did_prepare n.setup (told h m) n.id n.past place.config.number w.view place.height d st.node) ground fits)
       (sent_all (f ∷ told h m) n.id place.config.members (message_of.Commit commit) (record { ground = ground; spelled = fits }))
+      (all_append (IsBackedStatement (f ∷ told h m) n.id) m.signed (commit_text place.config.number w.view place.height d ∷ []) (signed_older su i h m st f)
+      (prepared_backed (f ∷ told h m) n.id place.config.number w.view place.height d here.config (view_fits place w.view here) number ground, tt))
 
   -- DELIVER
   deliver_stands : (m : Making PastNode) → MakingStands su i h m → (b : Block) (cert : Cert) → Allowed m.state.setup (told h m) (Delivered m.state.id b (proof_of.Bft cert)) → DeliveredFits b (proof_of.Bft cert)
@@ -174,7 +190,7 @@ module _ (su : Setup) (i : ℕ) (h : History) (honest : IsHonest su) where
   deliver_stands m st b cert ok fits =
       let n = m.state in
       let f = Delivered n.id b (proof_of.Bft cert) in
-      let one = after_fact su i h m st f (Did f None ∷ n.past) [] m.signed ok (eq-eqb n.id n.id refl) fits (did_deliver n.setup (told h m) n.id n.past b (proof_of.Bft cert) st.node) tt in
+      let one = after_fact su i h m st f (Did f None ∷ n.past) [] m.signed ok (eq-eqb n.id n.id refl) fits (did_deliver n.setup (told h m) n.id n.past b (proof_of.Bft cert) st.node) tt (signed_older su i h m st f) in
       subst (λ (posts : List Post). MakingStands su i h (record { state = record { setup = n.setup; id = n.id; past = Did f None ∷ n.past }; facts = m.facts ++ f ∷ []; posts = posts; signed = m.signed }))
       (append-nil m.posts) one
 
@@ -187,7 +203,7 @@ module _ (su : Setup) (i : ℕ) (h : History) (honest : IsHonest su) where
       let n = m.state in
       let by = stands n.setup (told h m) n.id n.past st.node in
       accept_stands m st b []
-      (acceptances_allowed n.setup (told h m) n.id (place_in n) (view_in n) accepts b by (honest_bounded n.setup (told h m) n.id (honest_in m st)) is)
+      (acceptances_allowed n.setup (told h m) n.id (place_in n) (view_in n) accepts b by (correct_in m st) is)
       (acceptance_fits accepts n.setup (told h m) n.id (place_in n) (view_in n) b by (fits_in m st) is) tt
 
   -- what is prepared was accepted, so it fits
@@ -208,7 +224,7 @@ module _ (su : Setup) (i : ℕ) (h : History) (honest : IsHonest su) where
       let n = m.state in
       let fits = prepared_fits m st d is in
       prepare_stands m st keys signs d fits.0 fits.1
-      (preparations_allowed n.setup (told h m) n.id (place_in n) (view_in n) d (stands n.setup (told h m) n.id n.past st.node) (honest_bounded n.setup (told h m) n.id (honest_in m st)) is)
+      (preparations_allowed n.setup (told h m) n.id (place_in n) (view_in n) d (stands n.setup (told h m) n.id n.past st.node) (correct_in m st) is)
 
   votes_stand : (m : Making PastNode) → MakingStands su i h m → (keys : Keys) → SignsFit keys → MakingStands su i h (votes past_ways keys m)
   unfolding place_in view_in
@@ -242,11 +258,10 @@ module _ (su : Setup) (i : ℕ) (h : History) (honest : IsHonest su) where
   deliver_round_stands m st None is rest more = st
   deliver_round_stands m st (Some d) is rest more =
       let n = m.state in
-      let honest_n = honest_in m st in
       more (makes_delivered past_ways d.0 d.1 m)
       (deliver_stands m st d.0 d.1
       (deliveries_allowed n.setup (told h m) n.id (place_in n) (view_in n) d.0 d.1 (stands n.setup (told h m) n.id n.past st.node)
-      (stands_last n.setup (told h m) n.id n.past st.node st.run (genesis_first n.setup honest_n)) (honest_bounded n.setup (told h m) n.id honest_n) is)
+      (stands_last n.setup (told h m) n.id n.past st.node st.run (genesis_first n.setup (bounded_in m st))) (correct_in m st) is)
       (delivered_fits m st d.0 d.1 is))
 
   rounds_stand : (keys : Keys) → SignsFit keys → (k : ℕ) (m : Making PastNode) → MakingStands su i h m → MakingStands su i h (rounds past_ways keys k m)
@@ -267,7 +282,7 @@ module _ (su : Setup) (i : ℕ) (h : History) (honest : IsHonest su) where
       let w = view_in n in
       let fits : FitsAt place.height b = proposal_fits place w offer b (fits_in m st) small is in
       accept_stands m st b (preprepare_message place w b ∷ [])
-      (proposals_allowed n.setup (told h m) n.id place w offer b (stands n.setup (told h m) n.id n.past st.node) (honest_bounded n.setup (told h m) n.id (honest_in m st)) is) fits
+      (proposals_allowed n.setup (told h m) n.id place w offer b (stands n.setup (told h m) n.id n.past st.node) (correct_in m st) is) fits
       (record { ground = or_left _ _ (accepted_itself n.id place.config.number w.view place.height (block_hash b)); spelled = preprepare_fits place w b (fits_in m st) fits }, tt)
 
   own_rule_stands : (m : Making PastNode) → MakingStands su i h m → (event : Event) → IsGoodEvent su h event → MakingStands su i h (own_rule past_ways event m)
@@ -290,5 +305,6 @@ module _ (su : Setup) (i : ℕ) (h : History) (honest : IsHonest su) where
         node = subst (λ su. NodeStands su h n.id (Came event (keys.accepts []) ∷ n.past)) (sym setup) (subst (λ i. NodeStands su h i (Came event (keys.accepts []) ∷ n.past)) (sym id) came);
         posts = tt;
         actors = tt;
+        signed = tt;
       } in
       rounds_stand keys signs 2 (own_rule past_ways event (begins past_ways keys n event)) (own_rule_stands (begins past_ways keys n event) first event good)

@@ -1,5 +1,5 @@
 -- What a node is by the list of all facts, and that its acts keep it.
-use Rattle.std.proofs.Common.{◌≡◌, ℕ, Bool, true, false, ◌||◌, ◌&&◌, List, [], ◌∷◌, cond, refl, sym, subst, ap, ◌∙◌, inl, inr, Option, Some, None, reverse}
+use Rattle.std.proofs.Common.{◌≡◌, ℕ, Bool, true, false, ◌||◌, ◌&&◌, List, [], ◌∷◌, ◌++◌, cond, refl, sym, subst, ap, ◌∙◌, inl, inr, Option, Some, None, reverse}
 use Rattle.std.specs.Prelude.{◌==◌, not, filter}
 use Rattle.std.specs.List.{All, AllByRecursion, list_any}
 use Rattle.std.specs.Str.{bytes_eq}
@@ -71,16 +71,21 @@ ground_more h f from (wire.RaftAppend m) is = absurd (cc)
 ground_more h f from (wire.RaftAppendReply m) is = absurd (cc)
 ground_more h f from (wire.RaftBlock m) is = absurd (cc)
 
-rests_more : (su : Setup) (h : History) (f : Fact) (letter : Letter) → rests su h letter ≡ true → rests su (f ∷ h) letter ≡ true
-rests_more su h f letter is =
-    elim (or_cases (is_in letter.from su.byzantine) (has_ground h letter.from (on_wire letter.message)) is) [
+ground_over : (h : History) (fs : List Fact) (from : ℕ) (m : Message) → has_ground h from m ≡ true → has_ground (fs ++ h) from m ≡ true
+ground_over h [] from m is = is
+ground_over h (f ∷ fs) from m is = ground_more (fs ++ h) f from m (ground_over h fs from m is)
+
+-- of a Byzantine member, or resting on a fact
+pub rests_over : (byzantine : List ℕ) (h : History) (fs : List Fact) (from : ℕ) (m : Message) → (is_in from byzantine || has_ground h from m) ≡ true → (is_in from byzantine || has_ground (fs ++ h) from m) ≡ true
+rests_over byzantine h fs from m is =
+    elim (or_cases (is_in from byzantine) (has_ground h from m) is) [
       | inl y ↦ or_left _ _ y
-      | inr n ↦ or_right _ _ (ground_more h f letter.from (on_wire letter.message) n)
+      | inr n ↦ or_right _ _ (ground_over h fs from m n)
     ]
 
 letters_more : (su : Setup) (h : History) (f : Fact) (letters : List Letter) → AllByRecursion (IsGoodLetter su h) letters → AllByRecursion (IsGoodLetter su (f ∷ h)) letters
 letters_more su h f letters all =
-    all_map (IsGoodLetter su h) (IsGoodLetter su (f ∷ h)) (λ letter good. record { rests = rests_more su h f letter good.rests; named = good.named; fits = good.fits }) letters all
+    all_map (IsGoodLetter su h) (IsGoodLetter su (f ∷ h)) (λ letter good. record { rests = rests_over su.byzantine h (f ∷ []) letter.from (on_wire letter.message) good.rests; named = good.named; fits = good.fits }) letters all
 
 -- a fact of another node is no acceptance of this one
 other_accepts : (i e v s : ℕ) (f : Fact) → (actor f == i) ≡ false → is_accepted_at i e v s f ≡ false

@@ -1,5 +1,5 @@
 -- Where a node stands, its last block and its last certificate fit.
-use Rattle.std.proofs.Common.{◌≡◌, ℕ, ◌≤◌, [], refl, sym, subst, ap, ◌∙◌, Option, Some, None, arith}
+use Rattle.std.proofs.Common.{◌≡◌, ℕ, ◌≤◌, ◌<◌, ◌^◌, refl, sym, subst, ap, ◌∙◌, Option, Some, None, arith}
 use Rattle.std.specs.List.{AllByRecursion}
 use Rattle.sha2.proofs.Facts256.{length-sha256}
 use Rattle.ord_types.specs.Genesis.{genesis_block}
@@ -8,7 +8,7 @@ use Rattle.ord_types.specs.Hashes.{header_hash}
 use Rattle.ord_types.specs.declared.values.Proof.TheVariants as proof_of
 use Rattle.safety_model.specs.Blocks.{Block, Config}
 use Rattle.safety_model.specs.Facts.{Cert, History, Proof}
-use Rattle.safety_model.specs.Rules.{IsRun}
+use Rattle.safety_model.specs.Rules.{IsRun, bound_of, faulty}
 use Rattle.safety_model.specs.Safety.{IsGenesis}
 use Rattle.safety_model.specs.State.{Setup, block_or, config_of, delivered, height, last_delivered, tip, view}
 use Rattle.safety_model.specs.declared.fact.Fact.TheVariants.{Delivered}
@@ -21,26 +21,30 @@ use Rattle.world_safety.proofs.Fitting.{PlaceFits, all_stands}
 use Rattle.world_safety.proofs.Nodes.{NodeStands, first_view_of}
 use Rattle.world_safety.proofs.Own.{height_own, last_own, tip_own}
 
--- a chain's setup where nobody lies, whose configuration has a spelling
-pub record IsHonest (su : Setup) : Type 0 where
+-- a chain's setup where no more members lie than the bound allows, and whose configuration has a spelling
+pub record IsBounded (su : Setup) : Type 0 where
   pub genesis : IsGenesis su
-  pub correct : su.byzantine ≡ []
+  pub few : faulty su.byzantine su.config ≤ bound_of su.config
   pub number : IsNumber su.config.number
   pub members : HasIdsSpelling su.config.members
 
-pub genesis_first : (su : Setup) → IsHonest su → su.genesis.header.number ≡ 0
+pub genesis_first : (su : Setup) → IsBounded su → su.genesis.header.number ≡ 0
 unfolding genesis_block
-genesis_first su honest = ap (λ (b : Block). b.header.number) honest.genesis.block
+genesis_first su bounded = ap (λ (b : Block). b.header.number) bounded.genesis.block
 
-genesis_decided : (su : Setup) → IsHonest su → su.genesis.meta.decided ≡ 0
+genesis_decided : (su : Setup) → IsBounded su → su.genesis.meta.decided ≡ 0
 unfolding genesis_block
-genesis_decided su honest = ap (λ (b : Block). b.meta.decided) honest.genesis.block
+genesis_decided su bounded = ap (λ (b : Block). b.meta.decided) bounded.genesis.block
 
 -- the last block
-tip_decided : (su : Setup) (h : History) (i : ℕ) → IsHonest su → AllByRecursion FactFits h → (o : Option (Block × Proof)) → last_delivered i h ≡ o
+tip_decided : (su : Setup) (h : History) (i : ℕ) → IsBounded su → AllByRecursion FactFits h → (o : Option (Block × Proof)) → last_delivered i h ≡ o
     → (block_or su.genesis o).meta.decided ≤ (block_or su.genesis o).header.number
-tip_decided su h i honest fit None is = let decided = genesis_decided su honest in omega arith
-tip_decided su h i honest fit (Some last) is = (all_stands FactFits h (Delivered i last.0 last.1) fit (last_stands i h last.0 last.1 is)).block.decided
+tip_decided su h i bounded fit None is = let decided = genesis_decided su bounded in omega arith
+tip_decided su h i bounded fit (Some last) is = (all_stands FactFits h (Delivered i last.0 last.1) fit (last_stands i h last.0 last.1 is)).block.decided
+
+tip_below : (su : Setup) (h : History) (i : ℕ) → IsBounded su → AllByRecursion FactFits h → (o : Option (Block × Proof)) → last_delivered i h ≡ o → IsNumber (block_or su.genesis o).header.number
+tip_below su h i bounded fit None is = let first = genesis_first su bounded in omega arith
+tip_below su h i bounded fit (Some last) is = (all_stands FactFits h (Delivered i last.0 last.1) fit (last_stands i h last.0 last.1 is)).block.number
 
 -- and the certificate that it was delivered with
 proof_cert : (proof : Proof) (cert : Cert) → ProofFits proof → cert_in proof ≡ Some cert → CertFits cert
@@ -52,22 +56,24 @@ last_fits h i fit cert None is at = absurd (cc)
 last_fits h i fit cert (Some last) is at = proof_cert last.1 cert (all_stands FactFits h (Delivered i last.0 last.1) fit (last_stands i h last.0 last.1 is)).behind at
 
 -- so the place fits
-pub place_fits : (su : Setup) (h : History) (i : ℕ) (past : Past) → IsHonest su → NodeStands su h i past → IsRun su h → AllByRecursion FactFits h → PlaceFits (place_of su i (facts_of past)) (view i (config_of su i (facts_of past)).number (facts_of past))
+pub place_fits : (su : Setup) (h : History) (i : ℕ) (past : Past) → IsBounded su → NodeStands su h i past → IsRun su h → AllByRecursion FactFits h → PlaceFits (place_of su i (facts_of past)) (view i (config_of su i (facts_of past)).number (facts_of past))
 unfolding place_of header_hash
-place_fits su h i past honest node run fit =
+place_fits su h i past bounded node run fit =
     let g = facts_of past in
     let tip_is : tip su i h ≡ tip su i g = tip_own su i h ∙ ap (tip su i) node.own in
     let high : height i h ≡ height i g = height_own i h ∙ ap (height i) node.own in
     let last_is : last_delivered i h ≡ last_delivered i g = last_own i h ∙ ap (last_delivered i) node.own in
-    let low : (tip su i h).meta.decided ≤ (tip su i h).header.number = tip_decided su h i honest fit (last_delivered i h) refl in
+    let low : (tip su i h).meta.decided ≤ (tip su i h).header.number = tip_decided su h i bounded fit (last_delivered i h) refl in
     let decided : (tip su i g).meta.decided ≤ (tip su i g).header.number = subst (λ (b : Block). b.meta.decided ≤ b.header.number) tip_is low in
-    let number = tip_number su h run (genesis_first su honest) i in
+    let number = tip_number su h run (genesis_first su bounded) i in
+    let below : (tip su i h).header.number < 2 ^ 62 = tip_below su h i bounded fit (last_delivered i h) refl in
     let numbers : (tip su i h).header.number ≡ (tip su i g).header.number = ap (λ (b : Block). b.header.number) tip_is in
     record {
       view = first_view_of su h i (config_of su i g).number past node;
-      config = subst (λ (c : Config). IsNumber c.number) (sym (config_stays su.config (delivered i g))) honest.number;
-      members = subst (λ (c : Config). HasIdsSpelling c.members) (sym (config_stays su.config (delivered i g))) honest.members;
+      config = subst (λ (c : Config). IsNumber c.number) (sym (config_stays su.config (delivered i g))) bounded.number;
+      members = subst (λ (c : Config). HasIdsSpelling c.members) (sym (config_stays su.config (delivered i g))) bounded.members;
       last = length-sha256 _;
       decided = omega arith;
+      small = omega arith;
       last_cert = λ cert at. last_fits h i fit cert (last_delivered i g) last_is at;
     }

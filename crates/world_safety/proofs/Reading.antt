@@ -1,12 +1,13 @@
 -- What comes as bytes: the vote message of an entry, and the request for a pool.
-use Rattle.std.proofs.Common.{◌≡◌, ℕ, zero, suc, Bool, true, false, ◌&&◌, List, [], ◌∷◌, ◌++◌, length, cond, refl, sym, subst, ap, ◌∙◌, Option, Some, None, Result, Ok, Err, arith}
+use Rattle.std.proofs.Common.{◌≡◌, ℕ, zero, suc, Bool, true, false, ◌&&◌, ◌||◌, List, [], ◌∷◌, ◌++◌, length, cond, refl, sym, subst, ap, ◌∙◌, Option, Some, None, Result, Ok, Err, arith}
 use Rattle.std.specs.Prelude.{IsSome, not, option_and_then, option_map}
 use Rattle.std.specs.Int.{w8, w32, w64, to_be_bytes}
 use Rattle.std.specs.List.{All}
-use Rattle.std.proofs.lemmas.Bool.{or_right}
+use Rattle.std.proofs.lemmas.Bool.{or_left, or_right}
 use Rattle.std.proofs.lemmas.List.Elements.{All-push}
 use Rattle.ord_types.specs.Faults.{all_or, whole}
 use Rattle.ord_types.specs.Grammar.{HasRequestSpelling, IsWord}
+use Rattle.ord_types.specs.Members.{is_in}
 use Rattle.ord_types.specs.Reading.{request_at}
 use Rattle.ord_types.specs.Spelling.{request_text}
 use Rattle.ord_types.specs.declared.fault.Flaw.{Flaw}
@@ -15,46 +16,107 @@ use Rattle.ord_types.proofs.Laws.{IsBytes, IsBytes-append, wide32, wide64, wide8
 use Rattle.ord_types.proofs.ValueLaws.{request_law}
 use Rattle.safety_model.specs.Blocks.{Request, is_ordinary}
 use Rattle.safety_model.specs.Facts.{History}
+use Rattle.safety_model.specs.declared.fact.Fact.{Fact}
 use Rattle.safety_model.specs.State.{Setup}
 use Rattle.script.specs.Commands.{AreBytes}
 use Rattle.signer_edge.specs.declared.seals.Seal.{Seal}
 use Rattle.bft_wire.specs.Messages.{HasMessageSpelling}
-use Rattle.bft_wire.specs.Reading.{message_in, message_or_none}
+use Rattle.bft_wire.specs.Reading.{decoded, message_in, message_or_none}
 use Rattle.bft_wire.specs.Spelling.{message_text}
 use Rattle.bft_wire.specs.declared.message.Message.{Message}
 use Rattle.bft_wire.specs.declared.message.Message.TheVariants as wire
-use Rattle.bft_wire.proofs.MessageLaws.{decoded_complete}
+use Rattle.bft_wire.proofs.MessageLaws.{decoded_complete, decoded_sound}
 use Rattle.node_model.specs.declared.letter.Letter.{Letter}
 use Rattle.node_model.specs.declared.letter.VoteMessage.TheVariants as message_of
 use Rattle.node_model.specs.declared.letter.VoteMessage.{VoteMessage}
 use Rattle.node_model.specs.Letters.{on_wire, vote_in}
+use Rattle.world_model.specs.Liars.{is_raft_if_any, is_raft_message}
 use Rattle.world_model.specs.Pools.{entered, has_id, pool_after, request_in}
 use Rattle.world_model.specs.Turns.{ordinary}
 use Rattle.world_model.specs.Worlds.{Entry, keys_of, letter_from}
 use Rattle.world_safety.specs.Resting.{has_ground}
-use Rattle.world_safety.specs.Safe.{IsReadable, RestsIn}
+use Rattle.world_safety.specs.Safe.{IsNoRaftMessage, IsReadable, RestsIn}
 use Rattle.world_safety.proofs.Delivering.{some_same}
 use Rattle.world_safety.proofs.Makings.{IsGoodMessage, SignsFit}
-use Rattle.world_safety.proofs.Nodes.{IsGoodEvent}
+use Rattle.world_safety.proofs.Nodes.{IsBrought, IsGoodEvent, rests_over}
 
 -- ENTRIES
 
--- an entry's bytes spell a message, which rests on a fact of its sender
-pub record EntryIn (h : History) (e : Entry) : Type 0 where
-  pub message : Message
-  pub text : e.bytes ≡ message_text message
-  pub good : IsGoodMessage h e.from message
+-- Of the bytes that a member sent: whatever message they spell has a spelling, is none of Raft, and rests on a fact of the
+-- sender where that isn't Byzantine; and there they do spell one.
+pub record EntryIn (byzantine : List ℕ) (h : History) (e : Entry) : Type 0 where
+  pub readable : IsReadable byzantine e
+  pub rests : RestsIn byzantine h e
+  pub no_raft : IsNoRaftMessage e
+  pub spelled : (m : Message) → message_in e.bytes ≡ Some m → HasMessageSpelling m
 
-entry_read : (h : History) (e : Entry) → (is : EntryIn h e) → message_in e.bytes ≡ Some is.message
-entry_read h e is = ap message_or_none (decoded_complete e.bytes is.message (record { grammar = is.good.spelled; text = is.text }))
+-- what is spelled is read
+pub text_read : (m : Message) → HasMessageSpelling m → message_in (message_text m) ≡ Some m
+text_read m may = ap message_or_none (decoded_complete (message_text m) m (record { grammar = may; text = refl }))
 
-pub entry_readable : (h : History) (e : Entry) → EntryIn h e → IsReadable e
-entry_readable h e is = subst IsSome (sym (entry_read h e is)) refl
+-- so a text spells nothing but its message
+pub text_is : (P : Message → Type 0) (m n : Message) → HasMessageSpelling m → message_in (message_text m) ≡ Some n → P m → P n
+text_is P m n may at is = subst P (some_same (sym (text_read m may) ∙ at)) is
 
-pub entry_rests : (h : History) (e : Entry) → EntryIn h e → RestsIn h e
-entry_rests h e is m at =
-    let same : is.message ≡ m = some_same (sym (entry_read h e is) ∙ at) in
-    subst (λ m. has_ground h e.from m ≡ true) same is.good.ground
+-- a message of a node
+no_raft_ground : (h : History) (from : ℕ) (m : Message) → has_ground h from m ≡ true → is_raft_message m ≡ false
+no_raft_ground h from (wire.PrePrepare m) is = refl
+no_raft_ground h from (wire.Prepare m) is = refl
+no_raft_ground h from (wire.Commit m) is = refl
+no_raft_ground h from (wire.ViewChange m) is = refl
+no_raft_ground h from (wire.ViewData m) is = refl
+no_raft_ground h from (wire.NewView m) is = refl
+no_raft_ground h from (wire.HeartBeat m) is = refl
+no_raft_ground h from (wire.HeartBeatReply m) is = refl
+no_raft_ground h from (wire.Forward m) is = refl
+no_raft_ground h from (wire.BlockAsk m) is = refl
+no_raft_ground h from (wire.BlockReply m) is = refl
+no_raft_ground h from (wire.HeaderAsk m) is = refl
+no_raft_ground h from (wire.HeaderReply m) is = refl
+no_raft_ground h from (wire.RaftVote m) is = absurd (cc)
+no_raft_ground h from (wire.RaftVoteReply m) is = absurd (cc)
+no_raft_ground h from (wire.RaftAppend m) is = absurd (cc)
+no_raft_ground h from (wire.RaftAppendReply m) is = absurd (cc)
+no_raft_ground h from (wire.RaftBlock m) is = absurd (cc)
+
+pub posted_in : (byzantine : List ℕ) (h : History) (from to : ℕ) (m : Message) → IsGoodMessage h from m → EntryIn byzantine h (record { from = from; to = to; bytes = message_text m; came = false })
+posted_in byzantine h from to m good =
+    let read = text_read m good.spelled in
+    record {
+      readable = λ correct. subst IsSome (sym read) refl;
+      rests = λ n at. or_right _ _ (text_is (λ n. has_ground h from n ≡ true) m n good.spelled at good.ground);
+      no_raft = ap is_raft_if_any read ∙ no_raft_ground h from m good.ground;
+      spelled = λ n at. text_is HasMessageSpelling m n good.spelled at good.spelled;
+    }
+
+-- what a Byzantine member sent, where what it spells has a spelling and is no message of Raft
+pub lied_in : (byzantine : List ℕ) (h : History) (from to : ℕ) (bytes : List ℕ) → is_in from byzantine ≡ true → is_raft_if_any (message_in bytes) ≡ false
+    → ((m : Message) → message_in bytes ≡ Some m → HasMessageSpelling m) → EntryIn byzantine h (record { from = from; to = to; bytes = bytes; came = false })
+lied_in byzantine h from to bytes liar no_raft spelled =
+    record {
+      readable = λ correct. absurd (cc);
+      rests = λ m at. or_left _ _ liar;
+      no_raft = no_raft;
+      spelled = spelled;
+    }
+
+-- any bytes spell only what has a spelling
+read_ok : (bytes : List ℕ) (m : Message) (read : Result Message ReadFault) → message_or_none read ≡ Some m → read ≡ Ok m
+read_ok bytes m (Ok n) is = let same : n ≡ m = some_same is in ap (λ (m : Message). Ok m) same
+read_ok bytes m (Err fault) is = absurd (cc)
+
+pub bytes_spelled : (bytes : List ℕ) → IsBytes bytes → (m : Message) → message_in bytes ≡ Some m → HasMessageSpelling m
+bytes_spelled bytes fits m is = (decoded_sound bytes m fits (read_ok bytes m (decoded bytes) is)).grammar
+
+-- facts are only added
+pub entry_over : (byzantine : List ℕ) (h : History) (fs : List Fact) (e : Entry) → EntryIn byzantine h e → EntryIn byzantine (fs ++ h) e
+entry_over byzantine h fs e is =
+    record {
+      readable = is.readable;
+      rests = λ m at. rests_over byzantine h fs e.from m (is.rests m at);
+      no_raft = is.no_raft;
+      spelled = is.spelled;
+    }
 
 -- the vote message of a message
 vote_is : (m : Message) (v : VoteMessage) → vote_in m ≡ Some v → on_wire v ≡ m
@@ -88,18 +150,19 @@ letter_is from m letter is = go (vote_in m) refl is
         let same : made ≡ letter = some_same at in
         (ap (λ (l : Letter). l.from) (sym same), ap (λ (l : Letter). on_wire l.message) (sym same) ∙ vote_is m v vote)
 
--- so what it brings to its receiver rests on a fact, and has a spelling
-pub entry_brings : (su : Setup) (h : History) (e : Entry) → EntryIn h e → IsGoodEvent su h (letter_from e)
-entry_brings su h e is letter at =
-    let m = is.message in
-    let read : option_map (λ message. record { from = e.from; message = message }) (option_and_then vote_in (Some m)) ≡ Some letter =
-    subst (λ (o : Option Message). option_map (λ message. record { from = e.from; message = message }) (option_and_then vote_in o) ≡ Some letter) (entry_read h e is) at in
-    let parts = letter_is e.from m letter read in
-    let ground : has_ground h e.from (on_wire letter.message) ≡ true = subst (λ m. has_ground h e.from m ≡ true) (sym parts.1) is.good.ground in
-    record {
-      rests = or_right _ _ (subst (λ from. has_ground h from (on_wire letter.message) ≡ true) (sym parts.0) ground);
-      fits = subst HasMessageSpelling (sym parts.1) is.good.spelled;
-    }
+-- so what it brings to its receiver rests on a fact, or is of a Byzantine member, and has a spelling
+pub entry_brings : (su : Setup) (h : History) (e : Entry) → EntryIn su.byzantine h e → IsGoodEvent su h (letter_from e)
+entry_brings su h e is letter at = go (message_in e.bytes) refl at
+  where
+    go : (o : Option Message) → message_in e.bytes ≡ o → option_map (λ message. record { from = e.from; message = message }) (option_and_then vote_in o) ≡ Some letter → IsBrought su h letter
+    go None read at = absurd (cc)
+    go (Some m) read at =
+        let parts = letter_is e.from m letter at in
+        let ground : (is_in e.from su.byzantine || has_ground h e.from (on_wire letter.message)) ≡ true = subst (λ m. (is_in e.from su.byzantine || has_ground h e.from m) ≡ true) (sym parts.1) (is.rests m read) in
+        record {
+          rests = subst (λ from. (is_in from su.byzantine || has_ground h from (on_wire letter.message)) ≡ true) (sym parts.0) ground;
+          fits = subst HasMessageSpelling (sym parts.1) (is.spelled m read);
+        }
 
 -- REQUESTS
 

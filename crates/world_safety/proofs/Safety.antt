@@ -1,9 +1,9 @@
--- Every world of every script is safe.
-use Rattle.std.proofs.Common.{◌≡◌, true, [], map, subst, sym, ap, ◌∙◌, Option, Some, None, arith}
+-- A good world is safe.
+use Rattle.std.proofs.Common.{◌≡◌, ◌≤◌, true, length, map, subst, sym, ap, ◌∙◌, Option, Some, None, arith}
 use Rattle.std.specs.List.{AllByRecursion}
 use Rattle.std.proofs.lemmas.List.Elements.{All-from_recursion}
 use Rattle.ord_types.specs.Grammar.{HasBlockSpelling, HasRequestSpelling, IsWord}
-use Rattle.ord_types.specs.Members.{is_in}
+use Rattle.ord_types.specs.Members.{fault_bound, how_many_in, is_in}
 use Rattle.safety_model.specs.Blocks.{Block, Request}
 use Rattle.safety_model.specs.Facts.{History, Proof}
 use Rattle.safety_model.specs.Rules.{IsRun, actor}
@@ -13,17 +13,16 @@ use Rattle.safety_model.specs.declared.fact.Fact.TheVariants.{Delivered}
 use Rattle.safety_model.proofs.Agreeing.{runs_agree}
 use Rattle.script.specs.Commands.{AreIds}
 use Rattle.node_model.specs.Keeping.{PastNode}
-use Rattle.world_model.specs.Histories.{worlds_of}
-use Rattle.world_model.specs.Turns.{first_config}
 use Rattle.world_model.specs.Worlds.{World}
-use Rattle.world_safety.specs.Safe.{EveryWorldIsSafe, IsNodeOf, IsReadable, IsSafe, IsSafeWorld, RestsIn, setup_of, setup_on}
+use Rattle.world_safety.specs.Safe.{AreBacked, IsNoRaftMessage, IsNodeOf, IsReadable, IsSafe, IsSafeWorld, RestsIn, ids_of, setup_of}
+use Rattle.world_safety.proofs.Backing.{seals_backed}
 use Rattle.world_safety.proofs.Fits.{FactFits}
 use Rattle.world_safety.proofs.Fitting.{all_stands}
 use Rattle.world_safety.proofs.Lists.{all_map}
 use Rattle.world_safety.proofs.Own.{stored_blocks}
-use Rattle.world_safety.proofs.Reading.{EntryIn, entry_readable, entry_rests}
-use Rattle.world_safety.proofs.Turns.{IsGood, IsGoodIn, worlds_good}
-use Rattle.world_safety.proofs.Worlds.{NodeIn}
+use Rattle.world_safety.proofs.Reading.{EntryIn}
+use Rattle.world_safety.proofs.Beginning.{IsGood, IsGoodIn}
+use Rattle.world_safety.proofs.Worlds.{NodeIn, correct_in}
 
 -- a block that has a spelling fits
 request_fits : (r : Request) → HasRequestSpelling r → RequestFits r
@@ -49,22 +48,25 @@ world_safe : (w : World PastNode History) → IsGood w → IsSafeWorld w
 world_safe w is =
     let su = is.setup in
     let good = is.good in
-    let here : su ≡ setup_of w = good.first ∙ ap (λ ids. setup_on (first_config ids)) (sym good.members) in
+    let here : su ≡ setup_of w = good.first in
+    let among = sym good.members in
     let nodes = all_map (NodeIn su w.told w.seals) (IsNodeOf su w.told) (λ node p. record { setup = p.setup; id = p.id; facts = p.stands.own; stored = p.stored; blocks = ap (map (λ (entry : Block × Proof). entry.0)) p.stored ∙ stored_blocks su node.id w.told }) w.nodes good.nodes in
-    let agreement : NoCollision su w.told → Agreement su w.told = λ apart. runs_agree su w.told good.honest.genesis good.run (all_fit w.told good.fit) apart in
+    let agreement : NoCollision su w.told → Agreement su w.told = λ apart. runs_agree su w.told good.bounded.genesis good.run (all_fit w.told good.fit) apart in
+    let network : AllByRecursion (EntryIn w.byzantine w.told) w.network = subst (λ (su : Setup). AllByRecursion (EntryIn su.byzantine w.told) w.network) here good.network in
     record {
-      members = subst AreIds (sym good.members) good.ids;
+      members = subst (λ (su : Setup). AreIds su.config.members) here good.ids;
+      bounded = subst (λ (su : Setup). how_many_in su.byzantine su.config.members ≤ fault_bound (length su.config.members)) here good.bounded.few;
+      correct = subst (λ (su : Setup). ids_of w.nodes ≡ correct_in su) here good.members;
       nodes = subst (λ (su : Setup). AllByRecursion (IsNodeOf su w.told) w.nodes) here nodes;
-      actors = subst (λ ids. AllByRecursion (λ f. is_in (actor f) ids ≡ true) w.told) (sym good.members) good.actors;
+      actors = subst (λ ids. AllByRecursion (λ f. is_in (actor f) ids ≡ true) w.told) among good.actors;
       run = subst (λ (su : Setup). IsRun su w.told) here good.run;
-      readable = all_map (EntryIn w.told) IsReadable (entry_readable w.told) w.network good.network;
-      resting = all_map (EntryIn w.told) (RestsIn w.told) (entry_rests w.told) w.network good.network;
+      readable = all_map (EntryIn w.byzantine w.told) (IsReadable w.byzantine) (λ e is. is.readable) w.network network;
+      resting = all_map (EntryIn w.byzantine w.told) (RestsIn w.byzantine w.told) (λ e is. is.rests) w.network network;
+      no_raft = all_map (EntryIn w.byzantine w.told) IsNoRaftMessage (λ e is. is.no_raft) w.network network;
+      backed = subst (λ ids. AreBacked ids w.told w.seals) among (seals_backed (correct_in su) w.told w.seals good.backed);
       agreement = subst (λ (su : Setup). NoCollision su w.told → Agreement su w.told) here agreement;
     }
 
 pub good_safe : (o : Option (World PastNode History)) → IsGoodIn o → IsSafe o
 good_safe None good = tt
 good_safe (Some w) good = world_safe w good
-
-pub worlds_safe : EveryWorldIsSafe
-worlds_safe script = all_map IsGoodIn IsSafe good_safe (worlds_of [] script) (worlds_good script)

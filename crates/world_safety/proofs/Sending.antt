@@ -1,5 +1,5 @@
 -- The messages that a node sends have a spelling.
-use Rattle.std.proofs.Common.{ℕ, List, sym, subst, arith}
+use Rattle.std.proofs.Common.{ℕ, List}
 use Rattle.sha2.proofs.Facts256.{length-sha256}
 use Rattle.ord_types.specs.Grammar.{HasSigSpelling, IsDigest, IsNumber}
 use Rattle.ord_types.specs.Hashes.{header_hash, block_hash}
@@ -11,10 +11,7 @@ use Rattle.node_model.specs.Acts.{View}
 use Rattle.node_model.specs.Leading.{Place}
 use Rattle.node_model.specs.Steps.{commit_message, prepare_message, preprepare_message}
 use Rattle.world_safety.proofs.Fits.{FitsAt, MessageFits}
-use Rattle.world_safety.proofs.Fitting.{PlaceFits, carried_fits}
-
-view_fits : (place : Place) (v : ℕ) → PlaceFits place v → IsNumber v
-view_fits place v fits = subst IsNumber (sym fits.view) (omega arith)
+use Rattle.world_safety.proofs.Fitting.{PlaceFits, carried_fits, view_fits}
 
 pub hash_fits : (b : Block) → IsDigest (block_hash b)
 unfolding header_hash

@@ -1,265 +1,192 @@
--- Every line of a script keeps a good world.
-use Rattle.std.proofs.Common.{◌≡◌, ℕ, zero, suc, ◌+◌, ◌-◌, Bool, true, false, List, [], ◌∷◌, ◌++◌, length, map, cond, refl, subst, ap, ◌∙◌, Option, Some, None, Result, Ok, Err, arith}
-use Rattle.std.specs.Prelude.{◌==◌, nat_lt, IfOk, codes, position, slice_get}
-use Rattle.std.specs.List.{All, AllByRecursion, flat_map}
-use Rattle.std.proofs.lemmas.Bool.{eq-eqb, or_left, or_right}
+-- All worlds of a line are good.
+use Rattle.std.proofs.Common.{◌≡◌, ℕ, zero, suc, ◌+◌, ◌-◌, Bool, true, false, List, [], ◌∷◌, cond, refl, sym, subst, Option, Some, None, Result, Ok, Err, ◌∙◌}
+use Rattle.std.specs.Prelude.{◌==◌, position, slice_get}
+use Rattle.std.specs.List.{AllByRecursion, All}
+use Rattle.ord_types.specs.Spelling.{request_text}
+use Rattle.safety_model.specs.State.{Setup}
+use Rattle.script.specs.Commands.{IsWellFormed}
+use Rattle.script.specs.declared.command.Command.{Command}
+use Rattle.script.specs.declared.command.Command.TheVariants.{Genesis, Submit, Raw, Show, Tick, Deliver, Flush, Propose, Vote, Lie, Seal}
+use Rattle.script.specs.declared.command.Range.{Range}
+use Rattle.script_play.specs.declared.ending.Ending.{Ending}
+use Rattle.script_play.specs.Worlds.{worlds, worlds_after}
+use Rattle.node_model.specs.Keeping.{PastNode, past_ways}
+use Rattle.world_model.specs.Histories.{past_setting}
+use Rattle.world_model.specs.Turns.{delivery, most_flushed, ordinary, tick_at, submitted}
+use Rattle.world_model.specs.Worlds.{Entry, Node, entry, is_waiting, letter_from, marked, node_at, tick_of, offer_to}
+use Rattle.world_safety.specs.Within.{PastWorld, after_delivery, after_letter, after_submit, after_tick, in_deliver, in_deliveries, in_flush, in_flushes, in_ticks, where_node, worlds_in, worlds_in_turn}
+use Rattle.world_safety.proofs.LyingWithin.{lied_good, proposed_good, sealed_good, voted_good}
+use Rattle.world_safety.proofs.Lists.{all_map, all_mapped}
+use Rattle.world_safety.proofs.Reading.{EntryIn, each_byte, entry_brings, ordinary_bytes, pool_spelled}
+use Rattle.world_safety.proofs.Worlds.{GoodWorld, NodeIn, entry_in, event_keeps, found_entry, found_node, all_set, nodes_apart, with_ids, with_new}
 use Rattle.std.proofs.lemmas.List.Elements.{All-nil, All-take}
 use Rattle.ord_types.specs.Grammar.{HasRequestSpelling}
-use Rattle.ord_types.specs.Members.{is_in}
-use Rattle.ord_types.specs.Spelling.{request_text}
 use Rattle.ord_types.proofs.Laws.{IsBytes}
-use Rattle.ord_types.specs.Genesis.{genesis_block}
-use Rattle.ord_types.specs.declared.values.Proof.TheVariants as proof_of
-use Rattle.safety_model.specs.Blocks.{Block, Config}
-use Rattle.safety_model.specs.Facts.{History, Proof}
-use Rattle.safety_model.specs.State.{Setup}
-use Rattle.line_flow.specs.Lines.{lines}
-use Rattle.script.specs.Commands.{AreIds, IsWellFormed}
-use Rattle.script.specs.declared.command.Command.{Command}
-use Rattle.script.specs.declared.command.Command.TheVariants.{Genesis, Submit, Raw, Show, Tick, Deliver, Flush}
-use Rattle.script.specs.declared.command.Range.{Range}
-use Rattle.script.proofs.CommandLemmas.{meaning_fits}
-use Rattle.script_play.specs.declared.ending.Ending.{Ending}
-use Rattle.script_play.specs.declared.ending.Ending.TheVariants.{Limit}
 use Rattle.script_play.specs.Turns.{Turn}
-use Rattle.script_play.specs.Worlds.{Keeps}
-use Rattle.script_play.proofs.WorldLemmas.{worlds_keep}
 use Rattle.node_model.specs.Acts.{may_propose}
-use Rattle.node_model.specs.Keeping.{PastNode, past_ways}
-use Rattle.node_model.specs.Steps.{Event}
-use Rattle.world_model.specs.Histories.{past_setting, worlds_of}
 use Rattle.world_model.specs.Pools.{offer}
-use Rattle.world_model.specs.Texts.{fact_text, flush_text, limit_text}
-use Rattle.world_model.specs.Turns.{at_node, deliver_turn, deliveries, delivery, delivery_to, event_turn, first_config, first_world, flush_turn, flushes, goes_on, most_entries, most_flushed, ordinary, refuses, says, show_turn, shows, some_world, submit_turn, submitted, then_on, tick_at, ticks, turn_in, turn_of}
-use Rattle.world_model.specs.Worlds.{Entry, Node, World, entry, is_waiting, letter_from, making, marked, node_at, offer_to, tick_of, world_after}
-use Rattle.world_safety.specs.Safe.{ids_of, setup_on}
-use Rattle.world_safety.proofs.Lists.{all_map, all_mapped}
-use Rattle.script.proofs.IdLemmas.{ids_spelled}
-use Rattle.world_safety.proofs.Nodes.{IsGoodEvent, opened}
-use Rattle.world_safety.proofs.Reading.{EntryIn, each_byte, entry_brings, ordinary_bytes, pool_spelled}
-use Rattle.world_safety.proofs.Worlds.{GoodWorld, NodeIn, all_set, event_keeps, found_entry, found_node, nodes_apart, with_ids, with_new}
-
--- a world, in the turn that leads to it
-abbrev pub Leads : {W : Type 0} → (W → Type 0) → Turn W → Type 0
-Leads P turn = IfOk turn.next P
-
-on_leads : {V W : Type 0} (P : V → Type 0) (Q : W → Type 0) (printed : List ℕ) (r : Result V Ending) (rest : V → Turn W) → IfOk r P → ((v : V) → P v → Leads Q (rest v)) → Leads Q (then_on printed r rest)
-on_leads P Q printed (Ok v) rest good more = more v good
-on_leads P Q printed (Err e) rest good more = tt
-
-goes_leads : {V W : Type 0} (P : V → Type 0) (Q : W → Type 0) (turn : Turn V) (rest : V → Turn W) → Leads P turn → ((v : V) → P v → Leads Q (rest v)) → Leads Q (goes_on turn rest)
-goes_leads P Q turn rest good more = on_leads P Q turn.printed turn.next rest good more
+use Rattle.world_safety.proofs.Beginning.{IsGoodIn, begun_good}
+use Rattle.world_safety.proofs.Tells.{Ends, IsEvent, delivery_ends, tick_ends}
 
 module _ (su : Setup) (number : ℕ) where
-  -- AN EVENT
-  event_leads : (w : World PastNode History) (node : Node PastNode) (event : Event) → GoodWorld su w → NodeIn su w.told w.seals node → IsGoodEvent su w.told event
-      → Leads (GoodWorld su) (event_turn past_setting number w node event)
-  unfolding event_turn
-  event_leads w node event good is brought = go (nat_lt most_entries (length after.network))
+  -- the worlds behind an event
+  behind : (w after : PastWorld) (turn : Turn PastWorld) (rest : PastWorld → List PastWorld) → IsEvent number w after turn → GoodWorld su after
+      → ((next : PastWorld) → GoodWorld su next → AllByRecursion (GoodWorld su) (rest next)) → AllByRecursion (GoodWorld su) (worlds_after turn.next rest)
+  behind w after turn rest is good more = go turn.printed turn.next is.ends
     where
-      after : World PastNode History
-      after = world_after past_setting w node (making past_setting w node event)
-
-      go : (t : Bool) → Leads (GoodWorld su) (cond t (record { printed = flat_map (fact_text number) (making past_setting w node event).facts ++ limit_text number most_entries; next = Err (Limit most_entries) })
-          (says (flat_map (fact_text number) (making past_setting w node event).facts) after))
-      go true = tt
-      go false = event_keeps su w node event good is brought
+      go : (printed : List ℕ) (r : Result PastWorld Ending) → Ends number after is.facts printed r → AllByRecursion (GoodWorld su) (worlds_after r rest)
+      go printed (Ok next) ends = more next (subst (GoodWorld su) (sym ends.0) good)
+      go printed (Err ending) ends = tt
 
   -- TICK
-  pub offer_fits : (node : Node PastNode) → All HasRequestSpelling node.pool → All HasRequestSpelling (offer_to past_ways node)
+  offer_fits : (node : Node PastNode) → All HasRequestSpelling node.pool → All HasRequestSpelling (offer_to past_ways node)
   offer_fits node fits = go (may_propose (past_ways.place node.state) (past_ways.view node.state))
     where
       go : (t : Bool) → All HasRequestSpelling (cond t (offer node.pool) [])
       go true = All-take HasRequestSpelling 1 node.pool fits
       go false = All-nil HasRequestSpelling
 
-  pub tick_leads : (w : World PastNode History) (id : ℕ) (o : Option (Node PastNode)) → GoodWorld su w → node_at id w.nodes ≡ o → Leads (GoodWorld su) (tick_at past_setting number w o)
-  tick_leads w id None good is = good
-  tick_leads w id (Some node) good is =
+  tick_good : (w : PastWorld) (id : ℕ) (o : Option (Node PastNode)) → GoodWorld su w → node_at id w.nodes ≡ o → GoodWorld su (after_tick w o)
+  tick_good w id None good is = good
+  tick_good w id (Some node) good is =
       let it = found_node (NodeIn su w.told w.seals) (λ node. node.id == id) w.nodes node good.nodes is in
-      event_leads w node (tick_of past_setting.ways node) good it (offer_fits node it.pool)
+      event_keeps su w node (tick_of past_setting.ways node) good it (offer_fits node it.pool)
 
-  ticks_lead : (id n : ℕ) (w : World PastNode History) → GoodWorld su w → Leads (GoodWorld su) (ticks past_setting number id n w)
-  unfolding ticks
-  ticks_lead id zero w good = good
-  ticks_lead id (suc n) w good =
-      goes_leads (GoodWorld su) (GoodWorld su) (tick_at past_setting number w (node_at id w.nodes)) (λ next. ticks past_setting number id n next)
-      (tick_leads w id (node_at id w.nodes) good refl) (λ next good. ticks_lead id n next good)
+  ticks_good : (id n : ℕ) (w : PastWorld) → GoodWorld su w → AllByRecursion (GoodWorld su) (in_ticks number id n w)
+  unfolding in_ticks
+  ticks_good id zero w good = tt
+  ticks_good id (suc n) w good =
+      let o = node_at id w.nodes in
+      let next_good = tick_good w id o good refl in (
+        next_good,
+        behind w (after_tick w o) (tick_at past_setting number w o) (λ next. in_ticks number id n next) (tick_ends number w o) next_good (λ next good. ticks_good id n next good),
+      )
 
   -- DELIVER
-  pub marked_good : (k : ℕ) (e : Entry) (w : World PastNode History) → GoodWorld su w → EntryIn w.told e → GoodWorld su (marked k e w)
+  marked_good : (k : ℕ) (e : Entry) (w : PastWorld) → GoodWorld su w → EntryIn su.byzantine w.told e → GoodWorld su (marked k e w)
   marked_good k e w good is =
       record {
         first = good.first;
         ids = good.ids;
-        honest = good.honest;
+        bounded = good.bounded;
         run = good.run;
         fit = good.fit;
         members = good.members;
         actors = good.actors;
         nodes = good.nodes;
-        network = all_set (EntryIn w.told) w.network k (record e { came = true }) good.network (record { message = is.message; text = is.text; good = is.good });
+        network = all_set (EntryIn su.byzantine w.told) w.network k (record e { came = true }) good.network (record { readable = is.readable; rests = is.rests; no_raft = is.no_raft; spelled = is.spelled });
         certified = good.certified;
+        backed = good.backed;
       }
 
-  delivery_to_leads : (e : Entry) (w : World PastNode History) (o : Option (Node PastNode)) → GoodWorld su w → EntryIn w.told e → node_at e.to w.nodes ≡ o → Leads (GoodWorld su) (delivery_to past_setting number e w o)
-  delivery_to_leads e w None good rests is = good
-  delivery_to_leads e w (Some node) good rests is =
-      event_leads w node (letter_from e) good (found_node (NodeIn su w.told w.seals) (λ node. node.id == e.to) w.nodes node good.nodes is) (entry_brings su w.told e rests)
+  letter_good : (k : ℕ) (e : Entry) (w : PastWorld) (o : Option (Node PastNode)) → GoodWorld su w → EntryIn su.byzantine w.told e → node_at e.to w.nodes ≡ o → GoodWorld su (after_letter k e w o)
+  letter_good k e w None good rests is = good
+  letter_good k e w (Some node) good rests is =
+      event_keeps su (marked k e w) node (letter_from e) (marked_good k e w good rests) (found_node (NodeIn su w.told w.seals) (λ node. node.id == e.to) w.nodes node good.nodes is) (entry_brings su w.told e rests)
 
-  pub delivery_leads : (k : ℕ) (e : Entry) (w : World PastNode History) → GoodWorld su w → EntryIn w.told e → Leads (GoodWorld su) (delivery past_setting number k e w)
-  delivery_leads k e w good rests = delivery_to_leads e (marked k e w) (node_at e.to w.nodes) (marked_good k e w good rests) rests refl
+  delivery_good : (k : ℕ) (e : Entry) (w : PastWorld) → GoodWorld su w → EntryIn su.byzantine w.told e → GoodWorld su (after_delivery k e w)
+  delivery_good k e w good rests = letter_good k e w (node_at e.to w.nodes) good rests refl
 
-  pub entry_in : (k : ℕ) (e : Entry) (w : World PastNode History) → GoodWorld su w → entry k w ≡ Some e → EntryIn w.told e
-  entry_in zero e w good is = absurd (cc)
-  entry_in (suc k) e w good is = found_entry (EntryIn w.told) w.network k e good.network is
-
-  deliveries_lead : (n k count : ℕ) (w : World PastNode History) (rest : ℕ → World PastNode History → Turn (World PastNode History)) → GoodWorld su w
-      → ((more : ℕ) (next : World PastNode History) → GoodWorld su next → Leads (GoodWorld su) (rest more next))
-      → Leads (GoodWorld su) (deliveries past_setting number n k count w rest)
-  unfolding deliveries
-  deliveries_lead zero k count w rest good more = more count w good
-  deliveries_lead (suc n) k count w rest good more = go (entry k w) refl (λ next good. deliveries_lead n (k + 1) (count + 1) next rest good more)
+  deliveries_good : (n k : ℕ) (w : PastWorld) (rest : PastWorld → List PastWorld) → GoodWorld su w
+      → ((next : PastWorld) → GoodWorld su next → AllByRecursion (GoodWorld su) (rest next))
+      → AllByRecursion (GoodWorld su) (in_deliveries number n k w rest)
+  unfolding in_deliveries
+  deliveries_good zero k w rest good more = more w good
+  deliveries_good (suc n) k w rest good more = go (entry k w) refl (λ next good. deliveries_good n (k + 1) next rest good more)
     where
-      go : (o : Option Entry) → entry k w ≡ o → ((next : World PastNode History) → GoodWorld su next → Leads (GoodWorld su) (deliveries past_setting number n (k + 1) (count + 1) next rest))
-          → Leads (GoodWorld su) (elim o [
-            | None ↦ refuses number (codes "no entry") w
-            | Some e ↦ goes_on (delivery past_setting number (k - 1) e w) (λ next. deliveries past_setting number n (k + 1) (count + 1) next rest)
+      go : (o : Option Entry) → entry k w ≡ o → ((next : PastWorld) → GoodWorld su next → AllByRecursion (GoodWorld su) (in_deliveries number n (k + 1) next rest))
+          → AllByRecursion (GoodWorld su) (elim o [
+            | None ↦ []
+            | Some e ↦ after_delivery (k - 1) e w ∷ worlds_after (delivery past_setting number (k - 1) e w).next (λ next. in_deliveries number n (k + 1) next rest)
           ])
-      go None is then_on = good
+      go None is then_on = tt
       go (Some e) is then_on =
-          goes_leads (GoodWorld su) (GoodWorld su) (delivery past_setting number (k - 1) e w) (λ next. deliveries past_setting number n (k + 1) (count + 1) next rest)
-          (delivery_leads (k - 1) e w good (entry_in k e w good is)) then_on
+          let next_good = delivery_good (k - 1) e w good (entry_in su k e w good is) in (
+            next_good,
+            behind w (after_delivery (k - 1) e w) (delivery past_setting number (k - 1) e w) (λ next. in_deliveries number n (k + 1) next rest) (delivery_ends number (k - 1) e w) next_good then_on,
+          )
 
-  deliver_leads : (ranges : List Range) (count : ℕ) (w : World PastNode History) → GoodWorld su w → Leads (GoodWorld su) (deliver_turn past_setting number ranges count w)
-  unfolding deliver_turn
-  deliver_leads [] count w good = good
-  deliver_leads (range ∷ ranges) count w good =
-      deliveries_lead (range.last + 1 - range.first) range.first count w (λ more next. deliver_turn past_setting number ranges more next) good (λ more next. deliver_leads ranges more next)
+  deliver_good : (ranges : List Range) (w : PastWorld) → GoodWorld su w → AllByRecursion (GoodWorld su) (in_deliver number ranges w)
+  unfolding in_deliver
+  deliver_good [] w good = tt
+  deliver_good (range ∷ ranges) w good =
+      deliveries_good (range.last + 1 - range.first) range.first w (λ next. in_deliver number ranges next) good (λ next. deliver_good ranges next)
 
   -- FLUSH
-  flushes_lead : (w : World PastNode History) (o : Option ℕ) (done : Turn (World PastNode History)) (rest : World PastNode History → Turn (World PastNode History)) → GoodWorld su w → Leads (GoodWorld su) done
-      → ((next : World PastNode History) → GoodWorld su next → Leads (GoodWorld su) (rest next)) → Leads (GoodWorld su) (flushes past_setting number w o done rest)
-  flushes_lead w None done rest good ended more = ended
-  flushes_lead w (Some k) done rest good ended more = go (slice_get w.network k) refl
+  flushes_good : (w : PastWorld) (o : Option ℕ) (rest : PastWorld → List PastWorld) → GoodWorld su w
+      → ((next : PastWorld) → GoodWorld su next → AllByRecursion (GoodWorld su) (rest next)) → AllByRecursion (GoodWorld su) (in_flushes number w o rest)
+  flushes_good w None rest good more = tt
+  flushes_good w (Some k) rest good more = go (slice_get w.network k) refl
     where
       go : (o : Option Entry) → slice_get w.network k ≡ o
-          → Leads (GoodWorld su) (elim o [ None ↦ done | Some e ↦ goes_on (delivery past_setting number k e w) rest ])
-      go None is = ended
-      go (Some e) is = goes_leads (GoodWorld su) (GoodWorld su) (delivery past_setting number k e w) rest (delivery_leads k e w good (found_entry (EntryIn w.told) w.network k e good.network is)) more
+          → AllByRecursion (GoodWorld su) (elim o [ None ↦ [] | Some e ↦ after_delivery k e w ∷ worlds_after (delivery past_setting number k e w).next rest ])
+      go None is = tt
+      go (Some e) is =
+          let next_good = delivery_good k e w good (found_entry (EntryIn su.byzantine w.told) w.network k e good.network is) in
+          (next_good, behind w (after_delivery k e w) (delivery past_setting number k e w) rest (delivery_ends number k e w) next_good more)
 
-  flush_leads : (only : Option (List ℕ)) (n count : ℕ) (w : World PastNode History) → GoodWorld su w → Leads (GoodWorld su) (flush_turn past_setting number only n count w)
-  unfolding flush_turn
-  flush_leads only zero count w good = good
-  flush_leads only (suc n) count w good =
-      flushes_lead w (position (is_waiting only) w.network) (says (flush_text number count) w) (λ next. flush_turn past_setting number only n (count + 1) next) good good (λ next good. flush_leads only n (count + 1) next good)
+  flush_good : (only : Option (List ℕ)) (n : ℕ) (w : PastWorld) → GoodWorld su w → AllByRecursion (GoodWorld su) (in_flush number only n w)
+  unfolding in_flush
+  flush_good only zero w good = tt
+  flush_good only (suc n) w good =
+      flushes_good w (position (is_waiting w.nodes only) w.network) (λ next. in_flush number only n next) good (λ next good. flush_good only n next good)
 
   -- SUBMIT and RAW
-  pub submit_leads : (word : List ℕ) (w : World PastNode History) (node : Node PastNode) (bytes : List ℕ) → IsBytes bytes → GoodWorld su w → NodeIn su w.told w.seals node → Leads (GoodWorld su) (submit_turn number word w node bytes)
-  submit_leads word w node bytes fits good is =
+  submit_good : (w : PastWorld) (node : Node PastNode) (bytes : List ℕ) → IsBytes bytes → GoodWorld su w → NodeIn su w.told w.seals node → GoodWorld su (after_submit w node bytes)
+  submit_good w node bytes fits good is =
       let new = submitted node bytes in
       record {
         first = good.first;
         ids = good.ids;
-        honest = good.honest;
+        bounded = good.bounded;
         run = good.run;
         fit = good.fit;
         members = with_ids new w.nodes ∙ good.members;
         actors = good.actors;
         nodes = with_new (NodeIn su w.told w.seals) (NodeIn su w.told w.seals) new (λ other not_it before. before)
-            (record { setup = is.setup; id = is.id; member = is.member; stands = is.stands; pool = pool_spelled node.pool bytes fits is.pool; stored = is.stored; sealed = is.sealed }) w.nodes (nodes_apart su w good) good.nodes;
+            (record { setup = is.setup; id = is.id; correct = is.correct; stands = is.stands; pool = pool_spelled node.pool bytes fits is.pool; stored = is.stored; sealed = is.sealed }) w.nodes (nodes_apart su w good) good.nodes;
         network = good.network;
         certified = good.certified;
+        backed = good.backed;
       }
 
-  -- SHOW changes nothing
-  show_leads : (w : World PastNode History) (node : Node PastNode) (block : ℕ) → GoodWorld su w → Leads (GoodWorld su) (show_turn number w node block)
-  show_leads w node block good = go (slice_get node.ledger block)
-    where
-      go : (o : Option (Block × Proof)) → Leads (GoodWorld su) (shows number w node o)
-      go None = good
-      go (Some stored) = good
-
   -- A COMMAND
-  node_leads : (id : ℕ) (w : World PastNode History) (o : Option (Node PastNode)) (turn : Node PastNode → Turn (World PastNode History)) → GoodWorld su w → node_at id w.nodes ≡ o
-      → ((node : Node PastNode) → NodeIn su w.told w.seals node → Leads (GoodWorld su) (turn node)) → Leads (GoodWorld su) (at_node number w o turn)
-  node_leads id w None turn good is each = good
-  node_leads id w (Some node) turn good is each = each node (found_node (NodeIn su w.told w.seals) (λ node. node.id == id) w.nodes node good.nodes is)
+  where_good : (id : ℕ) (w : PastWorld) (o : Option (Node PastNode)) (worlds : Node PastNode → List PastWorld) → GoodWorld su w → node_at id w.nodes ≡ o
+      → ((node : Node PastNode) → NodeIn su w.told w.seals node → AllByRecursion (GoodWorld su) (worlds node)) → AllByRecursion (GoodWorld su) (where_node o worlds)
+  where_good id w None worlds good is each = tt
+  where_good id w (Some node) worlds good is each = each node (found_node (NodeIn su w.told w.seals) (λ node. node.id == id) w.nodes node good.nodes is)
 
-  pub command_leads : (w : World PastNode History) (command : Command) → IsWellFormed command → GoodWorld su w → Leads (GoodWorld su) (turn_in past_setting number w command)
-  command_leads w (Genesis members) formed good = good
-  command_leads w (Submit id client serial payload) formed good =
+  command_good : (w : PastWorld) (command : Command) → IsWellFormed command → GoodWorld su w → AllByRecursion (GoodWorld su) (worlds_in number w command)
+  command_good w (Genesis members byzantine) formed good = tt
+  command_good w (Submit id client serial payload) formed good =
       let bytes = request_text (ordinary client serial payload) in
-      node_leads id w (node_at id w.nodes) (λ node. submit_turn number (codes "submit") w node bytes) good refl
-      (λ node is. submit_leads (codes "submit") w node bytes (ordinary_bytes client serial payload (each_byte payload formed.are_bytes)) good is)
-  command_leads w (Raw id bytes) formed good =
-      node_leads id w (node_at id w.nodes) (λ node. submit_turn number (codes "raw") w node bytes) good refl (λ node is. submit_leads (codes "raw") w node bytes (each_byte bytes formed.are_bytes) good is)
-  command_leads w (Show id block) formed good = node_leads id w (node_at id w.nodes) (λ node. show_turn number w node block) good refl (λ node is. show_leads w node block good)
-  command_leads w (Tick id count) formed good = node_leads id w (node_at id w.nodes) (λ node. ticks past_setting number id count w) good refl (λ node is. ticks_lead id count w good)
-  command_leads w (Deliver ranges) formed good = deliver_leads ranges 0 w good
-  command_leads w (Flush only) formed good = flush_leads only most_flushed 0 w good
+      where_good id w (node_at id w.nodes) (λ node. after_submit w node bytes ∷ []) good refl
+      (λ node is. (submit_good w node bytes (ordinary_bytes client serial payload (each_byte payload formed.are_bytes)) good is, tt))
+  command_good w (Raw id bytes) formed good =
+      where_good id w (node_at id w.nodes) (λ node. after_submit w node bytes ∷ []) good refl (λ node is. (submit_good w node bytes (each_byte bytes formed.are_bytes) good is, tt))
+  command_good w (Show id block) formed good = tt
+  command_good w (Tick id count) formed good = where_good id w (node_at id w.nodes) (λ node. in_ticks number id count w) good refl (λ node is. ticks_good id count w good)
+  command_good w (Deliver ranges) formed good = deliver_good ranges w good
+  command_good w (Flush only) formed good = flush_good only most_flushed w good
+  command_good w (Propose from to view client serial payload) formed good = proposed_good su w from to view client serial payload formed good
+  command_good w (Vote from to kind view k) formed good = voted_good su w from to kind view k formed good
+  command_good w (Lie from to bytes) formed good = lied_good su w from to bytes formed good
+  command_good w (Seal id bytes) formed good = sealed_good su w id bytes good
 
--- GENESIS
+-- WHERE THERE MAY BE NO WORLD YET
 
-abbrev first_node : Config → ℕ → Node PastNode
-first_node c id = record { id = id; state = past_setting.ways.opens c id; pool = []; ledger = (genesis_block c, proof_of.Raft) ∷ [] }
-
-same_ids : (c : Config) (ids : List ℕ) → ids_of (map (first_node c) ids) ≡ ids
-same_ids c [] = refl
-same_ids c (id ∷ ids) = ap (λ more. id ∷ more) (same_ids c ids)
-
-members_in : (ids members : List ℕ) → ((id : ℕ) → is_in id ids ≡ true → is_in id members ≡ true) → AllByRecursion (λ id. is_in id members ≡ true) ids
-members_in [] members within = tt
-members_in (id ∷ ids) members within = (within id (or_left _ _ (eq-eqb id id refl)), members_in ids members (λ other is. within other (or_right _ _ is)))
-
-pub first_good : (members : List ℕ) → AreIds members → GoodWorld (setup_on (first_config members)) (first_world past_setting (first_config members))
-first_good members are =
-    let c = first_config members in
-    let su = setup_on c in
-    let node : ℕ → Node PastNode = first_node c in
-    record {
-      first = refl;
-      ids = are;
-      honest = record { genesis = record { block = refl; bft = refl }; correct = refl; number = omega arith; members = ids_spelled members are };
-      run = tt;
-      fit = tt;
-      members = same_ids c members;
-      actors = tt;
-      nodes = all_mapped (NodeIn su [] []) node members
-          (all_map (λ id. is_in id members ≡ true) (λ id. NodeIn su [] [] (node id)) (λ id is. record { setup = refl; id = refl; member = is; stands = opened su id; pool = All-nil HasRequestSpelling; stored = refl; sealed = record { config = refl; letters = tt } }) members (members_in members members (λ id is. is)));
-      network = tt;
-      certified = tt;
-    }
-
--- a good world of some setup, where there is a world
-pub record IsGood (w : World PastNode History) : Type 0 where
-  pub setup : Setup
-  pub good : GoodWorld setup w
-
-abbrev pub IsGoodIn : Option (World PastNode History) → Type 0
-IsGoodIn None = Unit {0}
-IsGoodIn (Some w) = IsGood w
-
-turn_leads : (o : Option (World PastNode History)) (number : ℕ) (command : Command) → IsWellFormed command → IsGoodIn o → Leads IsGoodIn (turn_of past_setting o number command)
-unfolding turn_of
-turn_leads None number (Genesis members) formed good = record { setup = setup_on (first_config members); good = first_good members formed }
-turn_leads None number (Submit id client serial payload) formed good = tt
-turn_leads None number (Raw id bytes) formed good = tt
-turn_leads None number (Show id block) formed good = tt
-turn_leads None number (Tick id count) formed good = tt
-turn_leads None number (Deliver ranges) formed good = tt
-turn_leads None number (Flush only) formed good = tt
-turn_leads (Some w) number command formed good =
-    goes_leads (GoodWorld good.setup) IsGoodIn (turn_in past_setting number w command) some_world (command_leads good.setup number w command formed good.good)
-    (λ next is. record { setup = good.setup; good = is })
-
-led : {W : Type 0} (P : W → Type 0) (r : Result W Ending) (next : W) → IfOk r P → r ≡ Ok next → P next
-led P (Ok w) next good is = let same : w ≡ next = cc in subst P same good
-led P (Err e) next good is = absurd (cc)
-
-pub commands_keep : Keeps (turn_of past_setting) IsGoodIn
-commands_keep world next number line command means good is =
-    led IsGoodIn (turn_of past_setting world number command).next next (turn_leads world number command (meaning_fits line command means) good) is
-
-pub worlds_good : (script : List ℕ) → AllByRecursion IsGoodIn (worlds_of [] script)
-worlds_good script = worlds_keep (turn_of past_setting) IsGoodIn commands_keep (lines script) None 1 tt
+pub turn_good : (o : Option PastWorld) (number : ℕ) (command : Command) → IsWellFormed command → IsGoodIn o → AllByRecursion IsGoodIn (worlds_in_turn o number command)
+turn_good None number (Genesis members byzantine) formed good = begun_good number members byzantine formed.member_ids
+turn_good None number (Submit id client serial payload) formed good = tt
+turn_good None number (Raw id bytes) formed good = tt
+turn_good None number (Show id block) formed good = tt
+turn_good None number (Tick id count) formed good = tt
+turn_good None number (Deliver ranges) formed good = tt
+turn_good None number (Flush only) formed good = tt
+turn_good None number (Propose from to view client serial payload) formed good = tt
+turn_good None number (Vote from to kind view k) formed good = tt
+turn_good None number (Lie from to bytes) formed good = tt
+turn_good None number (Seal id bytes) formed good = tt
+turn_good (Some w) number command formed good =
+    all_mapped IsGoodIn Some (worlds_in number w command)
+    (all_map (GoodWorld good.setup) (λ w. IsGoodIn (Some w)) (λ next is. record { setup = good.setup; good = is }) (worlds_in number w command) (command_good good.setup number w command formed good.good))

@@ -1,0 +1,71 @@
+-- The world with which a script begins is good.
+use Rattle.std.proofs.Common.{◌≡◌, ℕ, ◌≤◌, Bool, true, false, List, [], ◌∷◌, length, map, cond, refl, ap, Option, Some, None, arith}
+use Rattle.std.specs.Prelude.{nat_lt}
+use Rattle.std.specs.List.{AllByRecursion}
+use Rattle.std.proofs.lemmas.Bool.{eq-eqb, ltb-false, or_left, or_right}
+use Rattle.std.proofs.lemmas.List.Elements.{All-nil}
+use Rattle.ord_types.specs.Grammar.{HasRequestSpelling}
+use Rattle.ord_types.specs.Members.{fault_bound, how_many_in, is_in}
+use Rattle.safety_model.specs.Blocks.{Config}
+use Rattle.safety_model.specs.Facts.{History}
+use Rattle.safety_model.specs.State.{Setup}
+use Rattle.script.specs.Commands.{AreIds}
+use Rattle.script.specs.declared.command.Command.TheVariants.{Genesis}
+use Rattle.node_model.specs.Keeping.{PastNode, setup_on}
+use Rattle.world_model.specs.Histories.{past_setting}
+use Rattle.world_model.specs.Turns.{first_config, first_node, first_world}
+use Rattle.world_model.specs.Worlds.{Node, World}
+use Rattle.world_safety.specs.Safe.{ids_of}
+use Rattle.world_safety.proofs.Lists.{all_map, all_mapped}
+use Rattle.script.proofs.IdLemmas.{ids_spelled}
+use Rattle.world_safety.proofs.Nodes.{opened}
+use Rattle.world_safety.proofs.Worlds.{GoodWorld, NodeIn, correct_in}
+use Rattle.world_safety.specs.Within.{worlds_in_turn}
+
+same_ids : (c : Config) (byzantine ids : List ℕ) → ids_of (map (first_node past_setting c byzantine) ids) ≡ ids
+same_ids c byzantine [] = refl
+same_ids c byzantine (id ∷ ids) = ap (λ more. id ∷ more) (same_ids c byzantine ids)
+
+members_in : (ids members : List ℕ) → ((id : ℕ) → is_in id ids ≡ true → is_in id members ≡ true) → AllByRecursion (λ id. is_in id members ≡ true) ids
+members_in [] members within = tt
+members_in (id ∷ ids) members within = (within id (or_left _ _ (eq-eqb id id refl)), members_in ids members (λ other is. within other (or_right _ _ is)))
+
+pub first_good : (members byzantine : List ℕ) → AreIds members → how_many_in byzantine members ≤ fault_bound (length members)
+    → GoodWorld (setup_on (first_config members) byzantine) (first_world past_setting (first_config members) byzantine)
+first_good members byzantine are few =
+    let c = first_config members in
+    let su = setup_on c byzantine in
+    let node : ℕ → Node PastNode = first_node past_setting c byzantine in
+    let ids = correct_in su in
+    record {
+      first = refl;
+      ids = are;
+      bounded = record { genesis = record { block = refl; bft = refl }; few = few; number = omega arith; members = ids_spelled members are };
+      run = tt;
+      fit = tt;
+      members = same_ids c byzantine ids;
+      actors = tt;
+      nodes = all_mapped (NodeIn su [] []) node ids
+          (all_map (λ id. is_in id ids ≡ true) (λ id. NodeIn su [] [] (node id)) (λ id is. record { setup = refl; id = refl; correct = is; stands = opened su id; pool = All-nil HasRequestSpelling; stored = refl; sealed = record { config = refl; letters = tt } }) ids (members_in ids ids (λ id is. is)));
+      network = tt;
+      certified = tt;
+      backed = tt;
+    }
+
+-- a good world of some setup, where there is a world
+pub record IsGood (w : World PastNode History) : Type 0 where
+  pub setup : Setup
+  pub good : GoodWorld setup w
+
+abbrev pub IsGoodIn : Option (World PastNode History) → Type 0
+IsGoodIn None = Unit {0}
+IsGoodIn (Some w) = IsGood w
+
+-- where no more members are Byzantine than the bound allows
+pub begun_good : (number : ℕ) (members byzantine : List ℕ) → AreIds members → AllByRecursion IsGoodIn (worlds_in_turn None number (Genesis members byzantine))
+begun_good number members byzantine are = go (nat_lt (fault_bound (length members)) (how_many_in byzantine members)) refl
+  where
+    go : (t : Bool) → nat_lt (fault_bound (length members)) (how_many_in byzantine members) ≡ t
+        → AllByRecursion IsGoodIn (cond t [] (Some (first_world past_setting (first_config members) byzantine) ∷ []))
+    go true is = tt
+    go false is = (record { setup = setup_on (first_config members) byzantine; good = first_good members byzantine are (ltb-false (fault_bound (length members)) (how_many_in byzantine members) is) }, tt)
