@@ -14,7 +14,8 @@ byz-propose 1 2 0 1 1 aa
 byz-propose 1 3 0 1 1 bb
 byz-propose 1 4 0 1 1 bb
 flush
-".as_slice(),
+"
+                .as_slice(),
             0,
             b"1 genesis
 2 byz-propose 1
@@ -26,7 +27,8 @@ node 2 height 1 config 0 view 0 left 0
 node 3 height 1 config 0 view 0 left 0
 node 4 height 1 config 0 view 0 left 0
 sent 12
-".as_slice(),
+"
+                .as_slice(),
         ),
         (
             b"genesis bft 1,2,3,4 batch=1 byz=4
@@ -134,7 +136,8 @@ flush
 byz-vote 1 3 commit 0 2
 byz-vote 1 4 commit 0 2
 flush
-".as_slice(),
+"
+                .as_slice(),
             4,
         ),
         (
@@ -322,11 +325,13 @@ fn lies_of_every_kind(rt: HostRuntime) -> Result<(), Fail> {
             b"genesis bft 1,2,3,4 batch=1 byz=1
 byz-propose 1 2 0 1 1 aa
 byz-propose 1 3 0 1 1 aa
-".as_slice(),
+"
+                .as_slice(),
             b"lie 1 2 ".as_slice(),
             b"byz-propose 1 4 0 1 1 aa
 flush
-".as_slice(),
+"
+                .as_slice(),
             6,
         ),
         (
@@ -345,7 +350,12 @@ tick 1
         put_lies(&mut script, front)?;
         script.extend_from_slice(end)?;
         let text = printed(rt.alloc(), script.as_slice())?;
-        assert_eq!(rt; text.lines().filter(|line| line.ends_with(" refused raft message")).count(), 16);
+        assert_eq!(rt;
+            text.lines()
+                .filter(|line| line.ends_with(" refused raft message"))
+                .count(),
+            16
+        );
         assert_eq!(rt; shown(rt.alloc(), text.as_str())?, Some(count));
     }
     Ok(())

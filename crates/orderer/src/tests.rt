@@ -20,7 +20,12 @@ fn words(alloc: Global, texts: &[&str]) -> Result<Vec<String>, Fail> {
 }
 
 /// Plays a script, of whose reads and writes these fail: the status, and what was written.
-pub(crate) fn played(alloc: Global, script: &[u8], read: u64, write: u64) -> Result<(u8, MemSink), Fail> {
+pub(crate) fn played(
+    alloc: Global,
+    script: &[u8],
+    read: u64,
+    write: u64,
+) -> Result<(u8, MemSink), Fail> {
     let words = words(alloc, &["world", "FILE"])?;
     let bytes = Bytes::from_slice(alloc, script)?;
     let mut source = MemSource::new(bytes, failing(alloc, read)?);

@@ -29,10 +29,11 @@ ghost use Rattle.world_run.specs.Nodes.{node_of};
 ghost use Rattle.world_run.specs.Lying.{bar_between, bar_text, commit_of, prepare_of, statement_of, subject_of};
 
 use crate::network::Entry;
-use crate::node::{Node, carried_cert, signed, spelled};
+use crate::node::Node;
+use crate::pieces::{carried_cert, encoded, signed, spelled};
 use crate::texts::{put_lied, put_seal};
 use crate::world::World;
-use bft_wire::{Commit, Message, PrePrepare, Prepare, encode};
+use bft_wire::{Commit, Message, PrePrepare, Prepare};
 use ord_types::{Bytes, Digest, List, NoMemory, Request, Sig, block_hash};
 use script::VoteKind;
 use script_play::Ending;
@@ -124,16 +125,6 @@ fn longest(nodes: &[Node]) -> Option<&Node>
             }
         }
     }
-}
-
-/// A message as bytes.
-fn encoded(alloc: Global, message: Message) -> Result<Bytes, NoMemory>
-    requires { FitsMessage message }
-    ensures { IfOk result (λ bytes. bytes ≡ message_text message) }
-{
-    let mut bytes = Bytes::new(alloc);
-    encode(&message, &mut bytes)?;
-    Ok(bytes)
 }
 
 /// A proposal of one request on top of a node's ledger.

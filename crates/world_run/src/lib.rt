@@ -4,6 +4,7 @@
 mod liars;
 mod network;
 mod node;
+mod pieces;
 mod pool;
 mod runner;
 mod showing;

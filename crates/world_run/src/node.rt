@@ -37,14 +37,15 @@ ghost use Rattle.world_model.specs.Worlds.{requests_in, sent_by, tick_of};
 ghost use Rattle.world_run.specs.Standing.{IsAt};
 
 use crate::network::{Entry, send_to_all};
+use crate::pieces::{carried_cert, first_place, signed, spelled};
 use crate::pool::{offer, settle};
 use crate::texts::put_block;
-use bft_wire::{Commit, Message, PrePrepare, Prepare, decode};
+use bft_wire::{Commit, Message, PrePrepare, Prepare};
 use ord_types::{
     Block, Cert, Config, Copied, Digest, NoMemory, Place, Proof, ReadFault, Request, Sig,
     block_hash, genesis_block,
 };
-use signer_edge::{SealSeat, SignFault, Signer, commit_statement};
+use signer_edge::{SealSeat, commit_statement};
 use std::alloc::Global;
 use view_core::{Act, ViewState};
 
@@ -74,65 +75,6 @@ pub(crate) struct Outside {
     pub(crate) network: Vec<Entry>,
     pub(crate) number: u64,
     pub(crate) text: String,
-}
-
-/// The place on the first block of a configuration.
-fn first_place(config: &Config, genesis: &Block) -> Result<Place, NoMemory>
-    requires config { IsGenesisConfig config.now }
-    requires genesis { genesis.now ≡ genesis_block config.now }
-    ensures place { IfOk result (λ place. place ≡ first_place config.now) }
-    ensures standing { IfOk result IsPlace }
-{
-    Ok(Place {
-        config: config.copy()?,
-        start: 1,
-        height: 1,
-        last: block_hash(&genesis.header),
-        last_meta: genesis.meta.copy()?,
-        last_cert: None,
-    })
-}
-
-/// The certificate that a proposal carries.
-pub(crate) fn carried_cert(place: &Place) -> Result<Option<Cert>, NoMemory>
-    requires { IsPlace place.now }
-    ensures cert { IfOk result (λ cert. cert ≡ carried_cert place.now) }
-    ensures fits { IfOk result (λ cert. IfSome cert FitsCert) }
-{
-    if place.height == place.start {
-        return Ok(None);
-    }
-    match &place.last_cert {
-        None => Ok(None),
-        Some(cert) => Ok(Some(cert.copy()?)),
-    }
-}
-
-/// Signs a statement. A box of seals never fails but for want of memory.
-pub(crate) fn signed(seat: &mut SealSeat, statement: &[u8]) -> Result<Sig, NoMemory>
-    ensures sig { IfOk result (λ sig. sig ≡ next_sig seat.old) }
-    ensures fits { IfOk result FitsSig }
-    ensures seat { OnOk result (seat.new ≡ with_seal seat.old statement.now) }
-{
-    match seat.sign(statement) {
-        Ok(sig) => Ok(sig),
-        Err(SignFault::Failed) => Err(NoMemory),
-        Err(SignFault::NoMemory) => Err(NoMemory),
-    }
-}
-
-/// The message that bytes spell, if they spell one.
-pub(crate) fn spelled(alloc: Global, bytes: &[u8]) -> Result<Option<Message>, NoMemory>
-    ensures message { IfOk result (λ message. message ≡ message_in bytes.now) }
-    ensures fits { IfOk result (λ message. IfSome message FitsMessage) }
-{
-    match decode(alloc, bytes) {
-        Ok(message) => Ok(Some(message)),
-        Err(ReadFault::NoMemory) => Err(NoMemory),
-        Err(ReadFault::Short(_at)) => Ok(None),
-        Err(ReadFault::BadField(_at)) => Ok(None),
-        Err(ReadFault::Trailing(_at)) => Ok(None),
-    }
 }
 
 impl Node {

@@ -1,6 +1,6 @@
 use Rattle.std.proofs.Common.{arith}
 use Rattle.ord_types.specs.Genesis.{genesis_block}
-use Rattle.world_run.proofs.node.first_place.Goals as goal
+use Rattle.world_run.proofs.pieces.first_place.Goals as goal
 
 pub returns-clause-place : goal.returns-clause-place
 unfolding genesis_block
