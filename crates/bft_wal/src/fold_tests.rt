@@ -21,9 +21,11 @@ enum Say {
     Voting(u8, u8),
     // term, number, block
     Take(u8, u8, u8),
+    // of another configuration
+    Elsewhere,
 }
 
-use Say::{Accept, Enter, Leave, Prepare, Take, Voting};
+use Say::{Accept, Elsewhere, Enter, Leave, Prepare, Take, Voting};
 
 fn said(alloc: Global, say: Say) -> WalRecord
     ensures { HasRecordSpelling result }
@@ -40,6 +42,7 @@ fn said(alloc: Global, say: Say) -> WalRecord
             term: u64::from(t),
             candidate: u32::from(id.max(1)),
         },
+        Elsewhere => WalRecord::Left { config: 0, view: 1 },
         Take(t, n, b) => tail(alloc, u64::from(t), u64::from(n), b),
     }
 }
@@ -109,13 +112,14 @@ fn is_seen(alloc: Global, found: &Durable, seen: Seen) -> bool {
 #[test]
 fn folds(rt: HostRuntime) -> Result<(), Fail> {
     for (says, seen) in [
-        ([].as_slice(), NOTHING),
+        ([Elsewhere, Elsewhere, Elsewhere, Elsewhere], NOTHING),
         // the greatest view entered, and the last number and choice
         (
-            &[
+            [
                 Enter(1, 3, 5, false),
                 Enter(1, 2, 4, true),
                 Enter(2, 9, 5, false),
+                Elsewhere,
             ],
             Seen {
                 view: 3,
@@ -124,7 +128,12 @@ fn folds(rt: HostRuntime) -> Result<(), Fail> {
             },
         ),
         (
-            &[Enter(1, 3, 4, true), Enter(1, 7, 5, false)],
+            [
+                Enter(1, 3, 4, true),
+                Enter(1, 7, 5, false),
+                Elsewhere,
+                Elsewhere,
+            ],
             Seen {
                 view: 7,
                 bound: Some((5, false)),
@@ -132,12 +141,12 @@ fn folds(rt: HostRuntime) -> Result<(), Fail> {
             },
         ),
         (
-            &[Leave(1, 4), Leave(1, 3), Leave(2, 9)],
+            [Leave(1, 4), Leave(1, 3), Leave(2, 9), Elsewhere],
             Seen { left: 4, ..NOTHING },
         ),
         // acceptances by falling views, in whatever order they came
         (
-            &[Accept(1, 2, 5, 1), Accept(1, 3, 5, 2)],
+            [Accept(1, 2, 5, 1), Accept(1, 3, 5, 2), Elsewhere, Elsewhere],
             Seen {
                 accepted: &[(3, 2), (2, 1)],
                 block: Some(2),
@@ -145,7 +154,7 @@ fn folds(rt: HostRuntime) -> Result<(), Fail> {
             },
         ),
         (
-            &[Accept(1, 3, 5, 2), Accept(1, 2, 5, 1)],
+            [Accept(1, 3, 5, 2), Accept(1, 2, 5, 1), Elsewhere, Elsewhere],
             Seen {
                 accepted: &[(3, 2), (2, 1)],
                 block: Some(2),
@@ -154,7 +163,12 @@ fn folds(rt: HostRuntime) -> Result<(), Fail> {
         ),
         // of one view the last counts
         (
-            &[Accept(1, 2, 5, 1), Accept(1, 1, 5, 4), Accept(1, 2, 5, 3)],
+            [
+                Accept(1, 2, 5, 1),
+                Accept(1, 1, 5, 4),
+                Accept(1, 2, 5, 3),
+                Elsewhere,
+            ],
             Seen {
                 accepted: &[(2, 3), (1, 4)],
                 block: Some(3),
@@ -163,7 +177,12 @@ fn folds(rt: HostRuntime) -> Result<(), Fail> {
         ),
         // another configuration, another number
         (
-            &[Accept(2, 4, 5, 1), Accept(1, 4, 6, 1), Accept(1, 1, 5, 2)],
+            [
+                Accept(2, 4, 5, 1),
+                Accept(1, 4, 6, 1),
+                Accept(1, 1, 5, 2),
+                Elsewhere,
+            ],
             Seen {
                 accepted: &[(1, 2)],
                 block: Some(2),
@@ -172,7 +191,12 @@ fn folds(rt: HostRuntime) -> Result<(), Fail> {
         ),
         // preparations of accepted blocks
         (
-            &[Accept(1, 2, 5, 1), Prepare(1, 2, 5, 1), Prepare(1, 3, 5, 2)],
+            [
+                Accept(1, 2, 5, 1),
+                Prepare(1, 2, 5, 1),
+                Prepare(1, 3, 5, 2),
+                Elsewhere,
+            ],
             Seen {
                 accepted: &[(2, 1)],
                 block: Some(1),
@@ -181,7 +205,12 @@ fn folds(rt: HostRuntime) -> Result<(), Fail> {
             },
         ),
         (
-            &[Prepare(1, 2, 5, 1), Accept(1, 1, 5, 1)],
+            [
+                Prepare(1, 2, 5, 1),
+                Accept(1, 1, 5, 1),
+                Elsewhere,
+                Elsewhere,
+            ],
             Seen {
                 accepted: &[(1, 1)],
                 block: Some(1),
@@ -189,10 +218,31 @@ fn folds(rt: HostRuntime) -> Result<(), Fail> {
                 ..NOTHING
             },
         ),
-        (&[Accept(1, 2, 6, 1), Prepare(1, 2, 5, 1)], NOTHING),
-        (&[Accept(2, 2, 5, 1), Prepare(1, 2, 5, 1)], NOTHING),
         (
-            &[Accept(1, 2, 5, 1), Prepare(1, 2, 6, 1), Prepare(2, 2, 5, 1)],
+            [
+                Accept(1, 2, 6, 1),
+                Prepare(1, 2, 5, 1),
+                Elsewhere,
+                Elsewhere,
+            ],
+            NOTHING,
+        ),
+        (
+            [
+                Accept(2, 2, 5, 1),
+                Prepare(1, 2, 5, 1),
+                Elsewhere,
+                Elsewhere,
+            ],
+            NOTHING,
+        ),
+        (
+            [
+                Accept(1, 2, 5, 1),
+                Prepare(1, 2, 6, 1),
+                Prepare(2, 2, 5, 1),
+                Elsewhere,
+            ],
             Seen {
                 accepted: &[(2, 1)],
                 block: Some(1),
@@ -201,7 +251,7 @@ fn folds(rt: HostRuntime) -> Result<(), Fail> {
         ),
         // the greatest view, and of equal ones the last record
         (
-            &[
+            [
                 Accept(1, 2, 5, 1),
                 Accept(1, 3, 5, 2),
                 Prepare(1, 3, 5, 2),
@@ -215,7 +265,7 @@ fn folds(rt: HostRuntime) -> Result<(), Fail> {
             },
         ),
         (
-            &[
+            [
                 Accept(1, 2, 5, 1),
                 Accept(1, 3, 5, 2),
                 Prepare(1, 3, 5, 2),
@@ -230,14 +280,14 @@ fn folds(rt: HostRuntime) -> Result<(), Fail> {
         ),
         // the last vote and the last tail
         (
-            &[Voting(5, 3), Voting(4, 2)],
+            [Voting(5, 3), Voting(4, 2), Elsewhere, Elsewhere],
             Seen {
                 voted: (4, 2),
                 ..NOTHING
             },
         ),
         (
-            &[Take(2, 5, 1), Take(1, 5, 3), Take(3, 6, 2)],
+            [Take(2, 5, 1), Take(1, 5, 3), Take(3, 6, 2), Elsewhere],
             Seen {
                 tail: Some((1, 3)),
                 ..NOTHING
@@ -247,7 +297,7 @@ fn folds(rt: HostRuntime) -> Result<(), Fail> {
         let mut quiet = empty(rt.alloc())?;
         let mut wal = Wal::open(rt.alloc(), &mut quiet)?;
         for say in says {
-            let entry = said(rt.alloc(), *say);
+            let entry = said(rt.alloc(), say);
             wal.append(rt.alloc(), &mut quiet, &entry)?;
         }
         // the log itself, and one that is opened again

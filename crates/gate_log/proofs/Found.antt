@@ -35,7 +35,7 @@ four : (k : ℕ) → 4 + k ≡ suc (suc (suc (suc k)))
 four k = omega arith
 
 -- the length of an entry stands in its first four bytes
-entry_length-front : (rest more : List ℕ) (k : ℕ) → 4 ≤ length rest → entry_length (take (4 + k) rest ++ more) ≡ entry_length rest
+pub entry_length-front : (rest more : List ℕ) (k : ℕ) → 4 ≤ length rest → entry_length (take (4 + k) rest ++ more) ≡ entry_length rest
 unfolding entry_length
 entry_length-front (a ∷ b ∷ c ∷ d ∷ rest) more k h = ap (λ (m : ℕ). entry_length (take m (a ∷ b ∷ c ∷ d ∷ rest) ++ more)) (four k)
 entry_length-front (a ∷ b ∷ c ∷ []) more k h = absurd (omega arith)
@@ -43,7 +43,7 @@ entry_length-front (a ∷ b ∷ []) more k h = absurd (omega arith)
 entry_length-front (a ∷ []) more k h = absurd (omega arith)
 entry_length-front [] more k h = absurd (omega arith)
 
-entry-front : (rest more : List ℕ) (k : ℕ) → 4 + k ≤ length rest → take k (drop 4 (take (4 + k) rest ++ more)) ≡ take k (drop 4 rest)
+pub entry-front : (rest more : List ℕ) (k : ℕ) → 4 + k ≤ length rest → take k (drop 4 (take (4 + k) rest ++ more)) ≡ take k (drop 4 rest)
 entry-front (a ∷ b ∷ c ∷ d ∷ rest) more k h =
     ap (λ (m : ℕ). take k (drop 4 (take m (a ∷ b ∷ c ∷ d ∷ rest) ++ more))) (four k)
     ∙ take_at (take k rest) more k (omega (arith, h, length-take k rest))
@@ -151,12 +151,12 @@ is_log generation entries bytes is = elim (leb_tells 10 (length bytes)) [
   ]
 ]
 
-common-append : (xs ys more : List ℕ) → length xs ≤ length ys → common xs (ys ++ more) ≡ common xs ys
+pub common-append : (xs ys more : List ℕ) → length xs ≤ length ys → common xs (ys ++ more) ≡ common xs ys
 common-append [] ys more h = refl
 common-append (x ∷ xs) [] more h = absurd (omega arith)
 common-append (x ∷ xs) (y ∷ ys) more h = ap (λ (n : ℕ). if x == y then suc n else 0) (common-append xs ys more (omega arith))
 
-generation_of-append : (bytes more : List ℕ) → 17 ≤ length bytes → generation_of (bytes ++ more) ≡ generation_of bytes
+pub generation_of-append : (bytes more : List ℕ) → 17 ≤ length bytes → generation_of (bytes ++ more) ≡ generation_of bytes
 unfolding generation_of
 generation_of-append bytes more h =
     let at : (i : ℕ) → i < 17 → get_or (bytes ++ more) i 0 ≡ get_or bytes i 0 = λ i below. get_or_append_left bytes more 0 i (omega arith) in

@@ -11,6 +11,7 @@ mod Steps
 mod Wholes
 pub mod Torn
 mod Bodies
+mod Broken
 mod Entries
 mod OpenLemmas
 mod RestartLemmas

@@ -27,6 +27,6 @@ mod whole;
 pub use disk::Disk;
 pub use fault::LogFault;
 pub use image::Image;
-pub use laws::{armed_call_stops, begun_log_reads, settled_log_stands};
+pub use laws::{armed_call_stops, begun_log_reads, front_reaches_the_gate, settled_log_stands};
 pub use log::GateLog;
 pub use memory::MemDisk;

@@ -1,4 +1,4 @@
-use Rattle.std.proofs.Common.{[], ◌∷◌, length, ap, sym, ◌∙◌, arith, length-append}
+use Rattle.std.proofs.Common.{◌∷◌, length, ap, sym, ◌∙◌, arith, length-append}
 use Rattle.gate_log.proofs.Found.{has_front}
 use Rattle.gate_log.proofs.before.entries_of.Goals as goal
 
