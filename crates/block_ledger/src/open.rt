@@ -85,7 +85,10 @@ fn add_stored<V: Verifier>(
     ensures config { blocks.new.place.config ≡ blocks.old.place.config }
 {
     let number = blocks.place.height;
-    let (block, proof) = stored_entry(alloc, number, bytes)?;
+    let (block, proof) = match stored_entry(alloc, number, bytes) {
+        Ok(entry) => entry,
+        Err(fault) => return Err(fault),
+    };
     if let Some(refusal) = next_refusal(alloc, &blocks.place, &block, &proof, verifier)? {
         return Err(LedgerFault::Stored(number, stored_why(refusal)));
     }
