@@ -20,7 +20,7 @@ use Rattle.block_ledger.proofs.Placing.{height_of_place}
 use Rattle.block_ledger.proofs.Refusing.{none_map}
 
 module _ (accepts : Accepts) where
-  fault_behind : (c : Config) (chain : List Entry) (e : Entry) → 1 ≤ length chain → entry_fault accepts c chain e ≡ option_map stored_why (next_refusal accepts (place_after c chain) e)
+  pub fault_behind : (c : Config) (chain : List Entry) (e : Entry) → 1 ≤ length chain → entry_fault accepts c chain e ≡ option_map stored_why (next_refusal accepts (place_after c chain) e)
   fault_behind c [] e some = absurd (omega arith)
   fault_behind c (x ∷ xs) e some = refl
 

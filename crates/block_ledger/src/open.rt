@@ -109,9 +109,14 @@ fn read_blocks<V: Verifier>(
     ensures { LoadsAll (V.accepts verifier.now) config entries.now (read_chain (V.accepts verifier.now) config entries.now) result }
 {
     let entries = entries.as_slice();
-    let mut blocks = first_stored(alloc, entries[0].as_slice(), config, genesis)?;
+    let mut blocks = match first_stored(alloc, entries[0].as_slice(), config, genesis) {
+        Ok(blocks) => blocks,
+        Err(fault) => return Err(fault),
+    };
     for bytes in &entries[1..] {
-        add_stored(alloc, bytes.as_slice(), &mut blocks, verifier)?;
+        if let Err(fault) = add_stored(alloc, bytes.as_slice(), &mut blocks, verifier) {
+            return Err(fault);
+        }
     }
     Ok(blocks)
 }
