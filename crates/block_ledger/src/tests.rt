@@ -323,7 +323,10 @@ fn a_chain_of_three(rt: HostRuntime) -> Result<(), Fail> {
     assert_eq!(rt; ledger.last_hash(), ZERO);
     for made in [FIRST, SECOND] {
         let (block, proof) = sealed(alloc, made)?;
-        assert_eq!(rt; ledger.append(alloc, &mut quiet, block, proof, &Echo), Ok(()));
+        assert_eq!(rt;
+            ledger.append(alloc, &mut quiet, block, proof, &Echo),
+            Ok(())
+        );
     }
     assert_eq!(rt; ledger.height(), 3);
     assert_eq!(rt; ledger.last_hash(), TWO);
@@ -386,10 +389,7 @@ fn refused_appends(rt: HostRuntime) -> Result<(), Fail> {
             LedgerFault::BadBlock(BlockRefusal::WrongContent),
         ),
         (
-            Made {
-                config: 1,
-                ..FIRST
-            },
+            Made { config: 1, ..FIRST },
             LedgerFault::BadBlock(BlockRefusal::WrongMeta),
         ),
         (
@@ -422,10 +422,16 @@ fn refused_appends(rt: HostRuntime) -> Result<(), Fail> {
         ),
     ] {
         let (block, proof) = sealed(alloc, made)?;
-        assert_eq!(rt; ledger.append(alloc, &mut quiet, block, proof, &Echo), Err(fault));
+        assert_eq!(rt;
+            ledger.append(alloc, &mut quiet, block, proof, &Echo),
+            Err(fault)
+        );
         assert_eq!(rt; ledger.height(), 1);
     }
     let (block, proof) = sealed(alloc, FIRST)?;
-    assert_eq!(rt; ledger.append(alloc, &mut quiet, block, proof, &Echo), Ok(()));
+    assert_eq!(rt;
+        ledger.append(alloc, &mut quiet, block, proof, &Echo),
+        Ok(())
+    );
     Ok(())
 }
