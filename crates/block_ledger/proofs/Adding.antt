@@ -63,7 +63,7 @@ first_of : (o : Option BlockRefusal) (rest : Option NextRefusal) (r : BlockRefus
 first_of None rest r none h = absurd (none r h)
 first_of (Some x) rest r none h = ap Some (some_block x r h)
 
-no_memory : (accepts : Accepts) (place : Place) (e : Entry) → next_refusal accepts place e ≡ Some (next_of.Block block_of.NoMemory) → ⊥
+pub no_memory : (accepts : Accepts) (place : Place) (e : Entry) → next_refusal accepts place e ≡ Some (next_of.Block block_of.NoMemory) → ⊥
 no_memory accepts place e h =
     let here = first_of (refusal_at place.last place.height place.config e.0) (proof_refusal accepts place.config e) block_of.NoMemory (no_proof accepts place.config e) h in
     ((refuses_rightly place.last place.height place.config e.0).each block_of.NoMemory).0 here

@@ -1,7 +1,12 @@
 -- What holds of chains, of places, and of the ledger's file.
-use Rattle.std.specs.Prelude.{◌≡◌, ◌↔◌, ℕ, ◌+◌, List, [], ◌∷◌, ◌++◌, map, None}
+use Rattle.std.specs.Prelude.{◌≡◌, ◌≢◌, ◌↔◌, Some, ℕ, ◌+◌, List, [], ◌∷◌, ◌++◌, map, None}
 use Rattle.ord_types.specs.Genesis.{IsGenesisConfig}
+use Rattle.std.specs.List.{AllByRecursion}
+use Rattle.ord_types.specs.Laws.{IsBytes}
 use Rattle.ord_types.specs.declared.values.Config.{Config}
+use Rattle.ord_types.specs.declared.values.Place.{Place}
+use Rattle.chan_config.specs.declared.checks.BlockRefusal.TheVariants.{NoMemory}
+use Rattle.block_ledger.specs.declared.fault.NextRefusal.TheVariants.{Block}
 use Rattle.gate_log.specs.Disk.{State, MayLeave}
 use Rattle.gate_log.specs.Format.{gate_after}
 use Rattle.signer_edge.specs.Accepts.{Accepts}
@@ -35,6 +40,16 @@ abbrev pub ChainsAreRead : Type 0
 ChainsAreRead =
     (accepts : Accepts) (c : Config) (chain : List Entry) → HaveSpelling chain → IsChain accepts c chain
     → read_chain accepts c (map entry_text chain) ≡ Chain chain
+
+-- what is read from a file's entries as a chain is one, and they spell it
+abbrev pub OnlyChainsAreRead : Type 0
+OnlyChainsAreRead =
+    (accepts : Accepts) (c : Config) (bytes : List ℕ) (more : List (List ℕ)) (chain : List Entry) → IsGenesisConfig c → AllByRecursion IsBytes (bytes ∷ more)
+    → read_chain accepts c (bytes ∷ more) ≡ Chain chain → IsChain accepts c chain × (bytes ∷ more ≡ map entry_text chain)
+
+-- no refusal of a block is a want of memory
+abbrev pub RefusalsAreKnown : Type 0
+RefusalsAreKnown = (accepts : Accepts) (place : Place) (e : Entry) → next_refusal accepts place e ≢ Some (Block NoMemory)
 
 -- the place behind block 0, and behind one more block
 abbrev pub BeginsAtFirst : Type 0

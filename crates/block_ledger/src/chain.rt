@@ -29,12 +29,6 @@ impl Chain {
         }
     }
 
-    pub fn len(&self) -> usize
-        ensures { result ≡ length self.now }
-    {
-        self.entries.len()
-    }
-
     /// Adds a block with its proof at the end.
     pub fn push(&mut self, entry: (Block, Proof)) -> Result<(), NoMemory>
         ensures ok { OnOk result (self.new ≡ self.old ++ entry ∷ []) }

@@ -215,7 +215,7 @@ pub const SECOND: Made = Made {
 
 pub fn put_sigs(
     bytes: &mut Bytes,
-    statement: &[u8],
+    statement: &[u8; 57],
     signers: &[u32],
     flip: bool,
 ) -> Result<(), NoMemory> {

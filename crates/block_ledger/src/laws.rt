@@ -1,12 +1,14 @@
-ghost use Rattle.block_ledger.specs.Laws.{BeginsAtFirst, ChainsAreRead, ChainsStay, FaultsAreTold, KeptChainStands, KeptEnds, KeptStays, MovesByOne, NextIsAdded};
+ghost use Rattle.block_ledger.specs.Laws.{BeginsAtFirst, ChainsAreRead, ChainsStay, FaultsAreTold, KeptChainStands, KeptEnds, KeptStays, MovesByOne, NextIsAdded, OnlyChainsAreRead, RefusalsAreKnown};
 
 /// Blocks are a chain exactly where none is the first that breaks the rules, and one more leaves a chain exactly where
-/// nothing is wrong with it at the chain's place. What spells a chain is read as it. A chain stays one where more signatures
+/// nothing is wrong with it at the chain's place. What spells a chain is read as it, and nothing else is. A chain stays one where more signatures
 /// are accepted. A law about the definitions; it does nothing.
 pub fn chains_are_told()
     ensures faults { FaultsAreTold }
     ensures next { NextIsAdded }
     ensures read { ChainsAreRead }
+    ensures only { OnlyChainsAreRead }
+    ensures known { RefusalsAreKnown }
     ensures more { ChainsStay }
 {}
 

@@ -1,4 +1,6 @@
+use Rattle.block_ledger.proofs.Adding.{no_memory}
 use Rattle.block_ledger.proofs.Linking.{chain_stays}
+use Rattle.block_ledger.proofs.Only.{reads_only_chains}
 use Rattle.block_ledger.proofs.Telling.{faults_are_told, next_is_added, reads_chain}
 use Rattle.block_ledger.proofs.laws.chains_are_told.Goals as goal
 
@@ -13,3 +15,9 @@ returns-clause-read g = reads_chain
 
 pub returns-clause-more : goal.returns-clause-more
 returns-clause-more g = chain_stays
+
+pub returns-clause-only : goal.returns-clause-only
+returns-clause-only g = reads_only_chains
+
+pub returns-clause-known : goal.returns-clause-known
+returns-clause-known g = no_memory
