@@ -238,7 +238,7 @@ pub fn put_behind(bytes: &mut Bytes, made: Made) -> Result<(), NoMemory> {
             let statement = commit_statement(0, 0, made.number, &made.hash);
             bytes.push(1)?;
             bytes.extend_from_slice(&[0; 8])?;
-            bytes.push(signers.len() as u8)?;
+            bytes.push(signers.len().min(31) as u8)?;
             put_sigs(bytes, &statement, signers, flip)?;
         }
     }
