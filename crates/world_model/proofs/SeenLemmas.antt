@@ -313,9 +313,9 @@ longer_seen : (node : Node PastNode) (o : Option (Node PastNode)) → seen_node 
 longer_seen node None = refl
 longer_seen node (Some other) = one_seen (ltb (length node.ledger) (length other.ledger)) other node
   where
-  one_seen : (b : Bool) (x y : Node PastNode) → seen_node (cond b x y) ≡ cond b (seen_node x) (seen_node y)
-  one_seen true x y = refl
-  one_seen false x y = refl
+    one_seen : (b : Bool) (x y : Node PastNode) → seen_node (cond b x y) ≡ cond b (seen_node x) (seen_node y)
+    one_seen true x y = refl
+    one_seen false x y = refl
 
 longest_seen : (nodes : List (Node PastNode)) → option_map seen_node (longest nodes) ≡ longest (map seen_node nodes)
 longest_seen [] = refl
