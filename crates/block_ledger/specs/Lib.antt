@@ -1,0 +1,10 @@
+pub mod Chains
+pub mod Entries
+pub mod Judging
+pub mod Ledgers
+pub mod Loading
+pub mod Orders
+pub mod Places
+pub mod Reading
+pub mod Answers
+pub mod Laws
