@@ -3,6 +3,7 @@ use Rattle.std.proofs.Common.{◌≡◌, inl, inr, ℕ, List, [], refl, sym, ◌
 use Rattle.gate_log.specs.Disk.{State, now, MayLeave, Synced, synced_file}
 use Rattle.gate_log.specs.Runs.{Leaves}
 use Rattle.gate_log.specs.Format.{reading, opened_as}
+use Rattle.gate_log.specs.Front.{IsReadOrNew}
 use Rattle.gate_log.specs.Opening.{OpensAsBefore}
 use Rattle.gate_log.specs.Renew.{IsOldOrAbsent, IsNewOrAbsent}
 use Rattle.gate_log.specs.declared.reading.Reading.TheVariants.{Absent, Log}
@@ -42,3 +43,17 @@ module _ (n : ℕ) (m0 m1 : List State) (reads_left : MayLeave (now m0 n) (now m
   pub after_sync_new : (m2 : List State) → reading (now m0 n).reads ≡ Absent → Leaves n OpensEmpty m1 m2 → Leaves n P m0 m2
   after_sync_new m2 absent went =
       leaves_then n P m0 m1 m2 run.went (leaves_to n OpensEmpty P (λ c empty. as_read c (empty ∙ sym (ap opened_as absent))) m1 m2 went)
+
+  abbrev Q : List ℕ → Type 0
+  Q = IsReadOrNew (now m0 n).reads
+
+  read_run : So n Q m0 m1 (synced_file (now m0 n).reads)
+  read_run = synced n Q m0 m0 m1 (now m0 n) (so_far n Q m0 (now m0 n) refl) sync (λ c left. inl (left_kept (now m0 n).reads c left))
+
+  -- the same, of what was read
+  pub read_after_sync : Leaves n Q m0 m1
+  read_after_sync = read_run.went
+
+  pub read_after_new : (m2 : List State) → reading (now m0 n).reads ≡ Absent → Leaves n OpensEmpty m1 m2 → Leaves n Q m0 m2
+  read_after_new m2 absent went =
+      leaves_then n Q m0 m1 m2 read_run.went (leaves_to n OpensEmpty Q (λ c empty. inr (absent, empty)) m1 m2 went)

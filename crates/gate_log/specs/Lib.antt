@@ -2,6 +2,7 @@ pub mod Arms
 pub mod Calls
 pub mod Disk
 pub mod Format
+pub mod Front
 pub mod History
 pub mod Memory
 pub mod Opening

@@ -22,6 +22,13 @@ impl GateLog {
         self.generation
     }
 
+    /// The length that an entry of so many bytes is too long for: its own, or the file's with it.
+    pub fn too_long_for(&self, length: u64) -> Option<u64>
+        ensures { result ≡ too_long_of self.now.gate length }
+    {
+        too_long(self.gate, length)
+    }
+
     /// Adds an entry. At `Ok` it is acknowledged: until the file is written to again, each crash leaves a file
     /// that has it. After `Failed` the log has to be opened again.
     pub fn append<D: Disk>(

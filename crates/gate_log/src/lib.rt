@@ -3,6 +3,7 @@
 
 mod append;
 mod arm;
+mod before;
 mod call;
 mod disk;
 mod fault;

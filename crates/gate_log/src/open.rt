@@ -1,8 +1,9 @@
-ghost use Rattle.std.specs.Prelude.{◌≡◌, ℕ, ◌<◌, ◌≤◌, [], IsTrue, IfOk, OnOk};
+ghost use Rattle.std.specs.Prelude.{◌≡◌, ◌≢◌, ℕ, ◌<◌, ◌≤◌, [], IsTrue, IfOk, OnOk};
 ghost use Rattle.ord_types.specs.Causes.{HasCause};
 ghost use Rattle.gate_log.specs.Disk.{now, Synced};
 ghost use Rattle.gate_log.specs.Runs.{Leaves};
 ghost use Rattle.gate_log.specs.Format.{reading, opened_as};
+ghost use Rattle.gate_log.specs.Front.{IsReadOrNew};
 ghost use Rattle.gate_log.specs.Settled.{IsSettled, OnRefusal};
 ghost use Rattle.gate_log.specs.Opening.{OpensAsBefore, OpensTo, OpenAnswers};
 ghost use Rattle.gate_log.specs.Renew.{IsSynced, CanClose, IsClosed};
@@ -30,6 +31,14 @@ impl GateLog {
         // A crash at any moment of the call opens to what a crash before it could open to. No other file changes.
         ensures any_moment { IsTrue (D.tells disk.old) → Leaves file
             (OpensAsBefore (now (D.moments disk.old) file)) (D.moments disk.old) (D.moments disk.new) }
+
+        // At each moment a crash leaves what was read, or an absent file opens as a new one.
+        ensures as_read { IsTrue (D.tells disk.old) → Leaves file
+            (IsReadOrNew (now (D.moments disk.old) file).reads) (D.moments disk.old) (D.moments disk.new) }
+
+        // A file that isn't absent is left as it was, but for the sync.
+        ensures kept { IsTrue (D.tells disk.old) → reading (now (D.moments disk.old) file).reads ≢ Absent
+            → OnOk result (Synced file (D.moments disk.old) (D.moments disk.new)) }
 
         // A refusal leaves the file as it was, but for the sync.
         ensures refused { IsTrue (D.tells disk.old) → OnRefusal result (Synced file (D.moments disk.old) (D.moments disk.new)) }
