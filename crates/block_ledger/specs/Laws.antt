@@ -31,10 +31,10 @@ NextIsAdded =
 abbrev pub ChainsStay : Type 0
 ChainsStay = (old new : Accepts) (c : Config) (chain : List Entry) → KeepsAccepted old new → IsChain old c chain → IsChain new c chain
 
--- a list is read from entries exactly where they spell it and it is a chain
+-- what spells a chain is read as it
 abbrev pub ChainsAreRead : Type 0
 ChainsAreRead =
-    (accepts : Accepts) (c : Config) (chain : List Entry) → IsGenesisConfig c → HaveSpelling chain → IsChain accepts c chain
+    (accepts : Accepts) (c : Config) (chain : List Entry) → HaveSpelling chain → IsChain accepts c chain
     → read_chain accepts c (map entry_text chain) ≡ Chain chain
 
 -- the place behind block 0, and behind one more block
@@ -47,7 +47,7 @@ MovesByOne = (c : Config) (chain : List Entry) (e : Entry) → place_after c (ch
 -- until its file is written to again, each crash leaves what stands for the ledger's chain
 abbrev pub KeptChainStands : Type 0
 KeptChainStands =
-    (accepts : Accepts) (ledger : Ledger) (state : State) → IsKept ledger state → IsGenesisConfig (first_config ledger) → IsChain accepts (first_config ledger) (blocks_of ledger)
+    (accepts : Accepts) (ledger : Ledger) (state : State) → IsKept ledger state → IsChain accepts (first_config ledger) (blocks_of ledger)
     → (bytes : List ℕ) → MayLeave (state 2) bytes → stands_for accepts (first_config ledger) bytes ≡ Chain (blocks_of ledger)
 
 -- a kept ledger stays kept while its file stays as it is

@@ -24,7 +24,6 @@ end_of ledger = ledger.log.gate + 1
 -- The ledger's file spells its blocks; all of it is on the disk.
 pub record IsKept (ledger : Ledger) (state : State) : Type 0 where
   pub settled : IsSettled ledger.log state
-  pub file : ledger.log.file ≡ 2
   pub spells : ledger.log.entries ≡ map entry_text (blocks_of ledger)
   pub spelled : HaveSpelling (blocks_of ledger)
 

@@ -12,6 +12,7 @@ use std::alloc::Global;
 
 impl Ledger {
     /// The block of a number with its proof, if the ledger has it.
+    #[tactic(auto, unfolding(crate::specs::Ledgers::blocks_of))]
     pub fn get<D: Disk>(
         &self,
         _alloc: Global,
