@@ -1,0 +1,4 @@
+mod Folding
+pub mod Opens
+pub mod RecordLaws
+mod Sizes

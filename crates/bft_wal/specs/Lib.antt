@@ -1,0 +1,5 @@
+pub mod Counting
+pub mod Fold
+pub mod Opening
+pub mod Reading
+pub mod Records
