@@ -1,3 +1,4 @@
 pub mod Places
 pub mod Held
 pub mod Fits
+pub mod Resuming

@@ -67,7 +67,7 @@ impl ViewState {
     }
 
     /// Begins under another configuration, with nothing held.
-    fn begin(&mut self, place: &Place)
+    pub(crate) fn begin(&mut self, place: &Place)
         requires { IsPlace place.now }
         ensures { self.new ≡ fresh self.old.me place.now }
     {

@@ -9,8 +9,10 @@ mod held;
 mod keeping;
 mod proposals;
 mod readers;
+mod resume;
 #[cfg(test)]
 mod tests;
 
 pub use held::ViewState;
 pub use node_model::Act;
+pub use resume::Held;
