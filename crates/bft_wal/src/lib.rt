@@ -7,10 +7,18 @@ mod decoding;
 mod durable;
 mod encoding;
 mod fold;
+#[cfg(test)]
+mod fold_tests;
+mod laws;
 mod record;
 mod tally;
+#[cfg(test)]
+mod tests;
+#[cfg(test)]
+mod vectors;
 mod wal;
 
 pub use durable::Durable;
+pub use laws::{one_record_more, records_are_read, settled_wal_stands};
 pub use record::WalRecord;
 pub use wal::Wal;

@@ -1,7 +1,9 @@
-ghost use Rattle.std.specs.Prelude.{◌≡◌, ℕ, ◌≤◌, [], ◌∷◌, ◌++◌, length, IsTrue, IfOk, OnOk};
+ghost use Rattle.std.specs.Prelude.{◌≡◌, ℕ, ◌≤◌, [], ◌∷◌, ◌++◌, length, Err, IsTrue, IfOk, OnOk};
+ghost use Rattle.gate_log.specs.declared.reading.Reading.TheVariants.{Foreign};
+ghost use Rattle.gate_log.specs.Format.{reading};
 ghost use Rattle.gate_log.specs.Disk.{now, Synced};
 ghost use Rattle.gate_log.specs.Runs.{Leaves};
-ghost use Rattle.gate_log.specs.Settled.{AppendAnswers, OnRefusal, too_long as too_long_of};
+ghost use Rattle.gate_log.specs.Settled.{AppendAnswers, GivesUp, OnRefusal, too_long as too_long_of};
 ghost use Rattle.bft_wal.specs.Fold.{counted, durable_of, tally_of};
 ghost use Rattle.bft_wal.specs.Opening.{IsSettled, IsWithOrWithout, OpenAnswers, OpensAsBefore, OpensTo, opens_as, records};
 ghost use Rattle.bft_wal.specs.Reading.{record_in};
@@ -45,14 +47,13 @@ impl Wal {
                 None => Ok(Wal { log }),
                 Some(at) => Err(LogFault::Foreign(at)),
             },
-            Err(LogFault::Foreign(at)) => {
-                let entries = GateLog::entries_before(alloc, disk, 0, at)?;
-                match first_wrong(alloc, &entries)? {
-                    None => Err(LogFault::Foreign(at)),
-                    Some(earlier) => Err(LogFault::Foreign(earlier)),
+            Err(fault) => match fault {
+                LogFault::Foreign(at) => {
+                    let place = earliest_wrong(alloc, disk, at)?;
+                    Err(LogFault::Foreign(place))
                 }
-            }
-            Err(fault) => Err(fault),
+                other => Err(other),
+            },
         }
     }
 
@@ -108,6 +109,23 @@ impl Wal {
             count(alloc, &mut tally, entry.as_slice())?;
         }
         Ok(tally)
+    }
+}
+
+// The first wrong place of a file that has a broken gate, or another first byte that is none of a log's, at this place: where
+// an entry in front of it isn't a record, that entry's gate.
+fn earliest_wrong<D: Disk>(alloc: Global, disk: &mut D, at: u64) -> Result<u64, LogFault>
+    requires { IsTrue (D.tells disk.old) → reading (now (D.moments disk.old) 0).reads ≡ Foreign at }
+    ensures value { IsTrue (D.tells disk.old) → IfOk result (λ place. opens_as (now (D.moments disk.old) 0).reads ≡ Err place) }
+    ensures same { IsTrue (D.tells disk.old) → D.moments disk.new ≡ D.moments disk.old }
+    ensures tells { D.tells disk.new ≡ D.tells disk.old }
+    ensures later { D.faults disk.old ≤ D.faults disk.new }
+    ensures cause { GivesUp (D.faults disk.old) (D.faults disk.new) result }
+{
+    let entries = GateLog::entries_before(alloc, disk, 0, at)?;
+    match first_wrong(alloc, &entries)? {
+        None => Ok(at),
+        Some(earlier) => Ok(earlier),
     }
 }
 
