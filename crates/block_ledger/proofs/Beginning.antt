@@ -33,7 +33,7 @@ config_spelling c is = record {
   rotation = omega (arith, is.bounds.small_rotation);
 }
 
-same_value : {X : Type 0} (x y : X) (n m : ℕ) → Answers (Ok (x, n)) (Ok (y, m)) → y ≡ x
+same_value : {X : Type 0} (x y : X) (n m : ℕ) → Answers {Y = X × ℕ} (Ok (x, n)) (Ok (y, m)) → y ≡ x
 same_value {X} x y n m h = ap (λ (r : Result (X × ℕ) ReadFault). value r) h
   where
     value : Result (X × ℕ) ReadFault → X
@@ -43,7 +43,7 @@ same_value {X} x y n m h = ap (λ (r : Result (X × ℕ) ReadFault). value r) h
 pub config_read : (c : Config) (b : Block) → IsGenesis c b → (payload : List ℕ) → payload ≡ (genesis_request c).payload → (found : Config) (n : ℕ)
     → ReadsSpelling HasConfigSpelling config_text (Ok (found, n)) payload 0 → c ≡ found
 config_read c b is payload same found n only =
-    same_value found c n (length (config_text c)) (only c (sig_text genesis_sig) (config_spelling c is.config) (omega arith) same)
+    same_value found c n (0 + length (config_text c)) (only c (sig_text genesis_sig) (config_spelling c is.config) (omega arith) same)
 
 pub genesis_spelling : (c : Config) (b : Block) → IsGenesis c b → HasBlockSpelling b
 genesis_spelling c b is = subst HasBlockSpelling (sym is.block) (genesis_block_spelling c is.config)

@@ -1,6 +1,6 @@
 -- What may come next is refused by nothing.
 use Rattle.std.proofs.Common.{◌≡◌, ℕ, ◌+◌, Bool, true, false, not, ◌&&◌, if◌then◌else◌, List, Some, None, Ok, Err, refl, sym, ◌∙◌, ap, subst}
-use Rattle.std.specs.Prelude.{Result, Option, is_ok, is_none, ◌↔◌}
+use Rattle.std.specs.Prelude.{Result, Option, is_ok, is_none, ◌↔◌, ◌<◌, ◌^◌, ◌==◌, nat_lt}
 use Rattle.std.specs.Option.{option_map, option_or}
 use Rattle.std.specs.Result.{result_err}
 use Rattle.std.proofs.lemmas.Option.{none-some}
@@ -17,7 +17,9 @@ use Rattle.signer_edge.specs.Certificates.{cert_refusal, is_good_cert}
 use Rattle.signer_edge.specs.Signing.{KeepsAccepted}
 use Rattle.signer_edge.specs.declared.certificates.CertRefusal.{CertRefusal}
 use Rattle.signer_edge.proofs.CertificateFacts.{is_good_cert-kept, is_ok-good}
-use Rattle.chan_config.specs.Blocks.{is_next_at}
+use Rattle.chan_config.specs.Blocks.{has_number, hashes_fit, is_lawful, is_linked, is_next_at}
+use Rattle.std.specs.Str.{bytes_eq}
+use Rattle.std.proofs.lemmas.Bool.{and_parts, ltb-true}
 use Rattle.chan_config.specs.Refusals.{checked, refusal_at}
 use Rattle.chan_config.specs.declared.checks.BlockRefusal.{BlockRefusal}
 use Rattle.chan_config.proofs.BlockLaws.{refuses_rightly}
@@ -116,3 +118,12 @@ checked_some (Some x) r h = cc
 pub checked_none : (o : Option BlockRefusal) (next : Option Config) → checked o ≡ Ok next → o ≡ None
 checked_none None next h = refl
 checked_none (Some x) next h = absurd cc
+
+-- what comes next has a number below 2^62
+pub has_room_for : (accepts : Accepts) (place : Place) (e : Entry) → next_refusal accepts place e ≡ None → place.height < 2 ^ 62
+has_room_for accepts place e h =
+    let next = and_parts (is_linked place.last place.height e.0) (is_lawful place.config e.0) (next_where accepts place e h).0 in
+    let linked = and_parts (has_number place.height e.0 && bytes_eq e.0.header.previous place.last) (hashes_fit e.0) next.0 in
+    let number = and_parts (has_number place.height e.0) (bytes_eq e.0.header.previous place.last) linked.0 in
+    let room = and_parts (e.0.header.number == place.height) (nat_lt place.height (2 ^ 62)) number.0 in
+    ltb-true place.height (2 ^ 62) room.1

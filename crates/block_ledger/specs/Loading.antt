@@ -66,7 +66,7 @@ BeginsStored accepts c bytes (Err fault) = TellsFault 0 (stored_fault accepts c 
 pub record IsLoaded (accepts : Accepts) (c : Config) (entries : List (List ℕ)) (stored : Stored) (blocks : Blocks) : Type 0 where
   pub stands : stored ≡ Chain blocks.chain
   pub spells : entries ≡ map entry_text blocks.chain
-  pub chain : IsChain accepts c blocks.chain
+  pub is_chain : IsChain accepts c blocks.chain
   pub config : blocks.place.config ≡ c
 
 abbrev pub TellsBad : Stored → LedgerFault → Type 0

@@ -85,7 +85,10 @@ fn add_stored<V: Verifier>(
     ensures config { blocks.new.place.config ≡ blocks.old.place.config }
 {
     let number = blocks.place.height;
-    let (block, proof) = stored_entry(alloc, number, bytes)?;
+    let (block, proof) = match stored_entry(alloc, number, bytes) {
+        Ok(entry) => entry,
+        Err(fault) => return Err(fault),
+    };
     if let Some(refusal) = next_refusal(alloc, &blocks.place, &block, &proof, verifier)? {
         return Err(LedgerFault::Stored(number, stored_why(refusal)));
     }
@@ -106,9 +109,14 @@ fn read_blocks<V: Verifier>(
     ensures { LoadsAll (V.accepts verifier.now) config entries.now (read_chain (V.accepts verifier.now) config entries.now) result }
 {
     let entries = entries.as_slice();
-    let mut blocks = first_stored(alloc, entries[0].as_slice(), config, genesis)?;
+    let mut blocks = match first_stored(alloc, entries[0].as_slice(), config, genesis) {
+        Ok(blocks) => blocks,
+        Err(fault) => return Err(fault),
+    };
     for bytes in &entries[1..] {
-        add_stored(alloc, bytes.as_slice(), &mut blocks, verifier)?;
+        if let Err(fault) = add_stored(alloc, bytes.as_slice(), &mut blocks, verifier) {
+            return Err(fault);
+        }
     }
     Ok(blocks)
 }

@@ -9,8 +9,8 @@ pub bounds-as_slice-0 : goal.bounds-as_slice-0
 bounds-as_slice-0 c = omega (arith, ap length c.as_slice.ensures, one_request c.requires.0 c.args.genesis.now c.requires.1)
 
 pub returns-in-Ok : goal.returns-in-Ok
-returns-in-Ok g c =
+returns-in-Ok c =
     let request = request_of c.requires.0 c.args.genesis.now c.requires.1 _ _ c.as_slice.ensures c.index-as_slice-0.is in
-    let payload = c.as_slice-payload.ensures ∙ ap (λ r. r.payload) request in
-    let same = config_read c.requires.0 c.args.genesis.now c.requires.1 _ payload _ _ (subst _ c.in-Ok.is c.read_config.ensures.only) in
+    let payload = c.as_slice-payload.ensures ∙ ap (λ r. r.payload) (sym c.index-as_slice-0.is ∙ request) in
+    let same = config_read c.requires.0 c.args.genesis.now c.requires.1 _ payload _ _ c.in-Ok.ensures.only in
     subst (λ x. IsGenesis x c.args.genesis.now) same c.requires.1
