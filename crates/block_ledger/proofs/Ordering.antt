@@ -71,3 +71,8 @@ first_chain_is c b is empty none = ap (λ (l : List Entry). l ++ (b, proof_of.Ra
   where
     one : Block → List Entry
     one x = (x, proof_of.Raft) ∷ []
+
+-- without the one that was added
+pub back_in_order : (chain new : List Entry) (place back : Place) (e : Entry) → IsInOrder chain place → new ≡ chain ++ e ∷ [] → back ≡ place → IsInOrder (take (length new - 1) new) back
+back_in_order chain new place back e order new_is back_is =
+    subst (λ (l : List Entry). IsInOrder l back) (sym (taken_back chain new e new_is)) (subst (IsInOrder chain) (sym back_is) order)

@@ -52,6 +52,12 @@ limit_fault end size = if nat_lt (2 ^ 62) (end + 5 + size) then Some (fault_of.L
 abbrev pub append_fault : Accepts → Place → ℕ → Entry → Option LedgerFault
 append_fault accepts place end e = option_or (option_map next_fault (next_refusal accepts place e)) (limit_fault end (length (entry_text e)))
 
+-- what is answered for a block that is to come next
+abbrev pub ChecksNext : Option NextRefusal → Result (Unit {0}) LedgerFault → Type 0
+ChecksNext refusal (Ok _) = refusal ≡ None
+ChecksNext refusal (Err fault_of.NoMemory) = refusal ≡ None
+ChecksNext refusal (Err told) = option_map next_fault refusal ≡ Some told
+
 -- why an append answers so; want of memory may come before the file's length is looked at
 abbrev pub AppendAnswers : Option NextRefusal → Option LedgerFault → ℕ → ℕ → Result (Unit {0}) LedgerFault → Type 0
 AppendAnswers refusal fault before now (Ok _) = fault ≡ None

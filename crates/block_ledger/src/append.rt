@@ -1,11 +1,12 @@
 ghost use Rattle.std.specs.Prelude.{◌≡◌, ℕ, ◌+◌, ◌≤◌, List, [], ◌∷◌, ◌++◌, length, IsTrue, IfOk, OnOk, OnErr, true, None};
 ghost use Rattle.gate_log.specs.Disk.{now};
 ghost use Rattle.gate_log.specs.Runs.{Leaves};
-ghost use Rattle.block_ledger.specs.Answers.{AppendAnswers, OnRefusal, append_fault, block_fault, next_fault};
+ghost use Rattle.block_ledger.specs.Answers.{AppendAnswers, ChecksNext, OnRefusal, append_fault, block_fault, next_fault};
 ghost use Rattle.block_ledger.specs.Chains.{IsChain};
 ghost use Rattle.block_ledger.specs.Entries.{HasEntrySpelling};
 ghost use Rattle.block_ledger.specs.Judging.{next_refusal};
 ghost use Rattle.block_ledger.specs.Ledgers.{IsKept, IsWithOrWithout, blocks_of, end_of, first_config};
+ghost use Rattle.block_ledger.specs.Orders.{IsBounded};
 ghost use Rattle.block_ledger.specs.Places.{place_after};
 
 use crate::entry::entry_bytes;
@@ -14,7 +15,7 @@ use crate::judge::next_refusal;
 use crate::{Ledger, LedgerFault};
 use chan_config::BlockRefusal;
 use gate_log::Disk;
-use ord_types::{Block, Proof};
+use ord_types::{Block, Place, Proof};
 use signer_edge::Verifier;
 use std::alloc::Global;
 
@@ -37,6 +38,24 @@ fn block_fault(refusal: BlockRefusal) -> LedgerFault
         BlockRefusal::WrongPrevious(named, real) => LedgerFault::WrongPrevious(named, real),
         BlockRefusal::NoMemory => LedgerFault::NoMemory,
         refusal => LedgerFault::BadBlock(refusal),
+    }
+}
+
+// Whether a block with its proof may come next at a place.
+fn check_next<V: Verifier>(
+    alloc: Global,
+    place: &Place,
+    block: &Block,
+    proof: &Proof,
+    verifier: &V,
+) -> Result<(), LedgerFault>
+    requires { IsBounded place.now.config }
+    ensures { ChecksNext (next_refusal (V.accepts verifier.now) place.now (block.now, proof.now)) result }
+{
+    match next_refusal(alloc, place, block, proof, verifier) {
+        Ok(None) => Ok(()),
+        Ok(Some(refusal)) => Err(next_fault(refusal)),
+        Err(_) => Err(LedgerFault::NoMemory),
     }
 }
 
@@ -74,9 +93,7 @@ impl Ledger {
             AppendAnswers (next_refusal (V.accepts verifier.now) place (block, proof)) (append_fault (V.accepts verifier.now) place (end_of self.old) (block, proof))
             (D.faults disk.old) (D.faults disk.new) result }
     {
-        if let Some(refusal) = next_refusal(alloc, &self.blocks.place, &block, &proof, verifier)? {
-            return Err(next_fault(refusal));
-        }
+        check_next(alloc, &self.blocks.place, &block, &proof, verifier)?;
         let bytes = entry_bytes(alloc, &block, &proof)?;
         let before = self.blocks.add(block, proof)?;
         match self.log.append(alloc, disk, bytes.as_slice()) {

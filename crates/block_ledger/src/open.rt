@@ -158,8 +158,10 @@ fn begin<D: Disk>(
     let bytes = entry_bytes(alloc, genesis, &Proof::Raft)?;
     let blocks = Blocks::first(alloc, config, genesis.copy()?)?;
     let mut log = log;
-    log.append(alloc, disk, bytes.as_slice())?;
-    Ok(Ledger { log, blocks })
+    match log.append(alloc, disk, bytes.as_slice()) {
+        Ok(()) => Ok(Ledger { log, blocks }),
+        Err(fault) => Err(LedgerFault::from(fault)),
+    }
 }
 
 impl Ledger {
