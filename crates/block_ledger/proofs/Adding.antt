@@ -1,20 +1,19 @@
 -- One more block, in memory and in the file.
-use Rattle.std.proofs.Common.{◌≡◌, inl, inr, ℕ, ◌+◌, ◌-◌, ◌≤◌, ◌^◌, Bool, true, false, if◌then◌else◌, List, [], ◌∷◌, ◌++◌, length, map, take, refl, sym, ◌∙◌, ap, subst, arith, Some, None, Ok, Err, IsTrue}
-use Rattle.std.specs.Prelude.{Option, Result, ◌⊎◌}
+use Rattle.std.proofs.Common.{◌≡◌, inl, inr, ℕ, ◌+◌, ◌≤◌, Bool, true, false, if◌then◌else◌, List, [], ◌∷◌, ◌++◌, length, map, sym, ◌∙◌, ap, subst, Some, None, Ok, Err}
+use Rattle.std.specs.Prelude.{Option, Result}
 use Rattle.std.specs.Option.{option_map, option_or}
 use Rattle.std.specs.Result.{IsErr, IsErrAnd}
 use Rattle.std.proofs.lemmas.List.{map-append}
 use Rattle.std.proofs.lemmas.Bool.{false≢true}
-use Rattle.std.proofs.lemmas.Option.{none-some, same_Some}
+use Rattle.std.proofs.lemmas.Option.{none-some}
 use Rattle.ord_types.specs.Members.{is_raft}
 use Rattle.ord_types.specs.Hashes.{block_hash}
 use Rattle.ord_types.specs.declared.values.Config.{Config}
 use Rattle.ord_types.specs.declared.values.Place.{Place}
 use Rattle.ord_types.specs.declared.values.Proof.TheVariants as proof_of
-use Rattle.gate_log.specs.Settled.{AppendAnswers as LogAnswers, IsSettled, IsWithOrWithout as LogWithOrWithout, OnRefusal as OnLogRefusal, too_long}
+use Rattle.gate_log.specs.Settled.{AppendAnswers as LogAnswers, IsWithOrWithout as LogWithOrWithout, OnRefusal as OnLogRefusal, too_long}
 use Rattle.gate_log.specs.declared.fault.LogFault.{LogFault}
 use Rattle.gate_log.specs.declared.fault.LogFault.TheVariants as log_of
-use Rattle.gate_log.specs.Disk.{State}
 use Rattle.signer_edge.specs.Accepts.{Accepts}
 use Rattle.signer_edge.specs.Certificates.{cert_refusal}
 use Rattle.signer_edge.specs.declared.certificates.CertRefusal.{CertRefusal}
@@ -26,15 +25,13 @@ use Rattle.block_ledger.specs.declared.fault.LedgerFault.{LedgerFault}
 use Rattle.block_ledger.specs.declared.fault.LedgerFault.TheVariants as fault_of
 use Rattle.block_ledger.specs.declared.fault.NextRefusal.{NextRefusal}
 use Rattle.block_ledger.specs.declared.fault.NextRefusal.TheVariants as next_of
-use Rattle.block_ledger.specs.declared.ledger.Ledger.{Ledger}
 use Rattle.block_ledger.specs.Answers.{AppendAnswers, ChecksNext, OnRefusal, append_fault, limit_fault, log_fault, next_fault}
-use Rattle.block_ledger.specs.Chains.{Entry, IsChain}
+use Rattle.block_ledger.specs.Chains.{Entry}
 use Rattle.block_ledger.specs.Entries.{HasEntrySpelling, HaveSpelling, entry_text}
 use Rattle.block_ledger.specs.Judging.{next_refusal, proof_refusal}
-use Rattle.block_ledger.specs.Ledgers.{IsKept, IsWithOrWithout, blocks_of, end_of, first_config}
-use Rattle.block_ledger.specs.Orders.{IsBounded, IsInOrder}
+use Rattle.block_ledger.specs.Ledgers.{IsWithOrWithout}
+use Rattle.block_ledger.specs.Orders.{IsBounded}
 use Rattle.block_ledger.specs.Places.{place_after}
-use Rattle.block_ledger.specs.Reading.{Chain, stands_for}
 use Rattle.block_ledger.proofs.EntrySizes.{entry_short, next_short}
 use Rattle.block_ledger.proofs.Keeping.{stands_spelled}
 use Rattle.block_ledger.proofs.Limits.{limit_is}

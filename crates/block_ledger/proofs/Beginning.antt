@@ -1,5 +1,5 @@
 -- The first configuration, from the block that carries it.
-use Rattle.std.proofs.Common.{◌≡◌, ◌∙◌, ℕ, ◌+◌, ◌^◌, ◌<◌, ◌≤◌, ap, sym, subst, refl, arith, List, [], ◌∷◌, ◌++◌, length, get_or, drop, Ok, Err}
+use Rattle.std.proofs.Common.{◌≡◌, ◌∙◌, ℕ, ◌+◌, ap, sym, subst, refl, arith, List, [], ◌∷◌, length, get_or, Ok, Err}
 use Rattle.std.specs.Prelude.{Result}
 use Rattle.ord_types.specs.Faults.{Answers, ReadsSpelling}
 use Rattle.ord_types.specs.Genesis.{IsGenesisConfig, genesis_block, genesis_request, genesis_sig}
@@ -12,7 +12,7 @@ use Rattle.ord_types.specs.declared.values.Request.{Request}
 use Rattle.ord_types.proofs.Sizes.{genesis_block_spelling}
 use Rattle.block_ledger.specs.Chains.{IsGenesis}
 
-requests_are : (c : Config) → (genesis_block c).requests ≡ genesis_request c ∷ []
+pub requests_are : (c : Config) → (genesis_block c).requests ≡ genesis_request c ∷ []
 unfolding genesis_block
 requests_are c = refl
 

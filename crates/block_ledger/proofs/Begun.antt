@@ -1,11 +1,10 @@
 -- An empty log that is made a ledger.
-use Rattle.std.proofs.Common.{◌≡◌, inl, inr, ℕ, ◌+◌, ◌≤◌, Bool, true, false, List, [], ◌∷◌, ◌++◌, length, map, refl, sym, ◌∙◌, ap, subst, arith, Some, None, Ok, Err, IsTrue}
-use Rattle.std.specs.Prelude.{Option, ◌⊎◌}
+use Rattle.std.proofs.Common.{◌≡◌, inl, inr, ℕ, ◌≤◌, Bool, true, false, List, [], ◌∷◌, ◌++◌, length, map, refl, sym, ◌∙◌, ap, subst, arith, Err, IsTrue}
 use Rattle.ord_types.specs.declared.values.Block.{Block}
 use Rattle.ord_types.specs.declared.values.Config.{Config}
 use Rattle.ord_types.specs.declared.values.Proof.TheVariants as proof_of
 use Rattle.gate_log.specs.Disk.{State}
-use Rattle.gate_log.specs.Format.{gate_after, reading}
+use Rattle.gate_log.specs.Format.{gate_after}
 use Rattle.gate_log.specs.Settled.{AppendAnswers, IsSettled, IsWithOrWithout, too_long}
 use Rattle.gate_log.specs.declared.fault.LogFault.{LogFault}
 use Rattle.gate_log.specs.declared.fault.LogFault.TheVariants as log_of
@@ -14,7 +13,7 @@ use Rattle.gate_log.specs.declared.reading.Reading.TheVariants.{Log}
 use Rattle.signer_edge.specs.Accepts.{Accepts}
 use Rattle.block_ledger.specs.declared.fault.LedgerFault.{LedgerFault}
 use Rattle.block_ledger.specs.Answers.{BeginAnswers, log_fault}
-use Rattle.block_ledger.specs.Chains.{Entry, IsChain, IsGenesis, genesis_entry}
+use Rattle.block_ledger.specs.Chains.{Entry, IsGenesis, genesis_entry}
 use Rattle.block_ledger.specs.Entries.{HasEntrySpelling, HaveSpelling, entry_text}
 use Rattle.block_ledger.specs.Reading.{Chain, stands_as, stands_for}
 use Rattle.block_ledger.proofs.Beginning.{genesis_spelling}
@@ -42,7 +41,7 @@ unfolding stands_for
 begun_stands accepts c b is generation entries text bytes none text_is (inl without) = ap (stands_as accepts c) (without ∙ ap (Log generation) none)
 begun_stands accepts c b is generation entries text bytes none text_is (inr with_it) =
     let spells : entries ++ text ∷ [] ≡ map entry_text (genesis_entry c ∷ []) =
-        ap (λ (l : List (List ℕ)). l ++ text ∷ []) none ∙ ap (λ (t : List ℕ). t ∷ []) (text_is ∙ ap entry_text (begun_entry c b is)) in
+    ap (λ (l : List (List ℕ)). l ++ text ∷ []) none ∙ ap (λ (t : List ℕ). t ∷ []) (text_is ∙ ap entry_text (begun_entry c b is)) in
     stands_spelled accepts c bytes generation (entries ++ text ∷ []) (genesis_entry c ∷ []) with_it spells (first_spelled c b is) (begins accepts c)
 
 -- why an empty log isn't made a ledger

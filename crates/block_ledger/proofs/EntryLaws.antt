@@ -1,12 +1,9 @@
 -- The law of entries: each has one spelling, and what is spelled is read.
-use Rattle.std.proofs.Common.{◌≡◌, ℕ, List, [], ◌∷◌, ◌++◌, length, Result, Ok, Err, refl, sym, ap, subst, ◌∙◌}
+use Rattle.std.proofs.Common.{◌≡◌, ◌++◌, length, Ok, refl, sym, ap, subst, ◌∙◌}
 use Rattle.ord_types.specs.Faults.{whole}
-use Rattle.ord_types.specs.Grammar.{HasBlockSpelling, HasProofSpelling}
-use Rattle.ord_types.specs.Reading.{block_at, proof_at}
 use Rattle.ord_types.specs.Spelling.{block_text, proof_text}
-use Rattle.ord_types.specs.declared.fault.Flaw.TheVariants.{Short}
 use Rattle.ord_types.proofs.Laws.{Law, Spelled, last, read_whole, said_as, step}
-use Rattle.ord_types.proofs.ValueLaws.{block_law, no_block, proof_law}
+use Rattle.ord_types.proofs.ValueLaws.{block_law, proof_law}
 use Rattle.block_ledger.specs.Chains.{Entry}
 use Rattle.block_ledger.specs.Entries.{HasEntrySpelling, entry_at, entry_text, read_entry}
 

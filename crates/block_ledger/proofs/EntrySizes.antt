@@ -1,12 +1,12 @@
 -- How long entries are.
-use Rattle.std.proofs.Common.{◌≡◌, ℕ, ◌+◌, ◌*◌, ◌<◌, ◌≤◌, ◌^◌, Bool, true, ◌&&◌, List, [], ◌∷◌, ◌++◌, length, refl, sym, ◌∙◌, ap, subst, arith, length-append}
-use Rattle.std.specs.Prelude.{nat_le, nat_lt, sum_by}
-use Rattle.std.specs.Int.{w8, w32, w64, to_be_bytes}
-use Rattle.std.specs.List.{AllByRecursion, flat_map, list_all}
+use Rattle.std.proofs.Common.{◌≡◌, ℕ, ◌+◌, ◌*◌, ◌≤◌, true, List, [], ◌∷◌, ◌++◌, length, refl, sym, ◌∙◌, ap, arith, length-append}
+use Rattle.std.specs.Prelude.{nat_le, nat_lt}
+use Rattle.std.specs.Int.{w32, to_be_bytes}
+use Rattle.std.specs.List.{flat_map, list_all}
 use Rattle.std.proofs.lemmas.Bool.{and_parts, leb-true}
 use Rattle.std.proofs.lemmas.List.Sums.{sum_by-cons}
-use Rattle.ord_types.specs.Genesis.{IsGenesisConfig, genesis_block, genesis_request, genesis_sig}
-use Rattle.ord_types.specs.Grammar.{AreSigs, HasBlockSpelling, HasCertSpelling, HasHeaderSpelling, HasMetaSpelling, HasProofSpelling}
+use Rattle.ord_types.specs.Genesis.{genesis_block, genesis_request, genesis_sig}
+use Rattle.ord_types.specs.Grammar.{AreSigs, HasBlockSpelling, HasHeaderSpelling, HasMetaSpelling, HasProofSpelling}
 use Rattle.ord_types.specs.Spelling.{block_text, cert_text, config_text, header_text, ids_text, meta_text, proof_text, request_text, requests_text, sig_text}
 use Rattle.ord_types.specs.declared.values.Block.{Block}
 use Rattle.ord_types.specs.declared.values.Cert.{Cert}

@@ -1,11 +1,10 @@
 -- A ledger and its file.
-use Rattle.std.proofs.Common.{◌≡◌, ℕ, ◌+◌, List, [], ◌∷◌, ◌++◌, map, refl, sym, ◌∙◌, ap, subst}
+use Rattle.std.proofs.Common.{◌≡◌, ℕ, ◌+◌, List, map, sym, ◌∙◌, ap, subst}
 use Rattle.ord_types.specs.declared.values.Config.{Config}
 use Rattle.gate_log.specs.Disk.{File, State, MayLeave}
 use Rattle.gate_log.specs.Format.{gate_after, reading}
 use Rattle.gate_log.specs.Settled.{IsSettled}
 use Rattle.gate_log.specs.declared.log.GateLog.{GateLog}
-use Rattle.gate_log.specs.declared.reading.Reading.{Reading}
 use Rattle.gate_log.specs.declared.reading.Reading.TheVariants.{Log}
 use Rattle.gate_log.proofs.Left.{left_kept}
 use Rattle.signer_edge.specs.Accepts.{Accepts}

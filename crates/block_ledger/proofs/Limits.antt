@@ -1,11 +1,10 @@
 -- When a file gets too long.
-use Rattle.std.proofs.Common.{◌≡◌, inl, inr, ℕ, ◌+◌, ◌<◌, ◌≤◌, ◌^◌, Bool, true, false, if◌then◌else◌, refl, sym, ◌∙◌, ap, subst, arith, Some, None, IsTrue}
-use Rattle.std.specs.Prelude.{Option, nat_lt}
+use Rattle.std.proofs.Common.{◌≡◌, ℕ, ◌+◌, ◌<◌, ◌≤◌, ◌^◌, Bool, true, false, if◌then◌else◌, refl, sym, ◌∙◌, ap, arith, Some, None}
+use Rattle.std.specs.Prelude.{nat_lt}
 use Rattle.std.specs.Option.{option_map}
-use Rattle.std.proofs.lemmas.Bool.{ltb-true, ltb-false}
-use Rattle.std.proofs.lemmas.Option.{none-some, same_Some}
+use Rattle.std.proofs.lemmas.Bool.{ltb-true}
+use Rattle.std.proofs.lemmas.Option.{none-some}
 use Rattle.gate_log.specs.Settled.{too_long}
-use Rattle.block_ledger.specs.declared.fault.LedgerFault.{LedgerFault}
 use Rattle.block_ledger.specs.declared.fault.LedgerFault.TheVariants as fault_of
 use Rattle.block_ledger.specs.Answers.{limit_fault}
 

@@ -1,18 +1,18 @@
 -- How a chain grows.
-use Rattle.std.proofs.Common.{◌≡◌, inl, inr, ℕ, zero, suc, ◌+◌, ◌<◌, ◌≤◌, Bool, true, ◌&&◌, List, [], ◌∷◌, ◌++◌, length, map, take, refl, sym, ◌∙◌, ap, subst, arith, Some, None, length-append, append_assoc}
+use Rattle.std.proofs.Common.{◌≡◌, inl, inr, ℕ, zero, suc, ◌+◌, ◌≤◌, true, ◌&&◌, List, [], ◌∷◌, ◌++◌, length, take, refl, sym, ◌∙◌, ap, subst, arith, Some, None}
 use Rattle.std.specs.Prelude.{slice_get, ◌==◌, nat_lt, ◌^◌}
 use Rattle.std.specs.Str.{bytes_eq}
 use Rattle.std.proofs.Math.Seq.{take-append_seam}
 use Rattle.std.proofs.lemmas.Bool.{and_parts, eqb-true}
 use Rattle.std.proofs.lemmas.List.{take-append-le}
-use Rattle.std.proofs.lemmas.Option.{none-some, same_Some, slice_get_within}
+use Rattle.std.proofs.lemmas.Option.{none-some, same_Some}
 use Rattle.ord_types.specs.Genesis.{genesis_block}
 use Rattle.ord_types.specs.Hashes.{block_hash}
 use Rattle.ord_types.specs.declared.values.Block.{Block}
 use Rattle.ord_types.specs.declared.values.Config.{Config}
 use Rattle.signer_edge.specs.Accepts.{Accepts}
 use Rattle.signer_edge.specs.Signing.{KeepsAccepted}
-use Rattle.chan_config.specs.Blocks.{config_at, follows_block, has_number, hashes_fit, is_lawful, is_linked, is_next_at}
+use Rattle.chan_config.specs.Blocks.{config_at, follows_block, has_number, hashes_fit, is_lawful, is_linked}
 use Rattle.block_ledger.specs.Chains.{Entry, IsChain, blocks_in, config_in_force, genesis_entry, is_proved}
 use Rattle.block_ledger.specs.Judging.{next_refusal}
 use Rattle.block_ledger.specs.Places.{place_after, tip_after}
@@ -65,7 +65,7 @@ module _ (accepts : Accepts) (c : Config) where
       let here : config_in_force c chain (length xs + 1) ≡ config_at c (blocks_in (x ∷ xs)) = ap (λ (l : List Entry). config_at c (blocks_in l)) before in
       let number : (tip_after x xs).0.header.number + 1 ≡ length (x ∷ xs) = ap (λ n. n + 1) (numbers is (length xs) (tip_after x xs) tip) ∙ size in
       let linked : is_linked (block_hash (tip_after x xs).0) (length (x ∷ xs)) e.0 ≡ true =
-          ap (λ n. is_linked (block_hash (tip_after x xs).0) n e.0) (sym number) ∙ is.linked (length xs) (tip_after x xs) e tip at in
+      ap (λ n. is_linked (block_hash (tip_after x xs).0) n e.0) (sym number) ∙ is.linked (length xs) (tip_after x xs) e tip at in
       let lawful : is_lawful (config_at c (blocks_in (x ∷ xs))) e.0 ≡ true = ap (λ (d : Config). is_lawful d e.0) (sym here) ∙ is.lawful (length xs) e at in
       let proved : is_proved accepts (config_at c (blocks_in (x ∷ xs))) e ≡ true = ap (λ (d : Config). is_proved accepts d e) (sym here) ∙ is.proved (length xs) e at in
       where_next accepts (place_after c (x ∷ xs)) e (rw (linked, lawful) refl) proved
@@ -82,36 +82,36 @@ module _ (accepts : Accepts) (c : Config) where
       let old_tip : slice_get chain (length xs) ≡ Some (tip_after x xs) = sym (get_front chain (e ∷ []) (length xs) (omega arith)) ∙ tip in
       let number : (tip_after x xs).0.header.number + 1 ≡ length chain = ap (λ n. n + 1) (numbers is (length xs) (tip_after x xs) old_tip) ∙ omega arith in
       let in_front : (i : ℕ) → i ≤ length chain → config_in_force c new i ≡ config_in_force c chain i =
-          λ i le. ap (λ (l : List Entry). config_at c (blocks_in l)) (take-append-le i chain (e ∷ []) le) in
+      λ i le. ap (λ (l : List Entry). config_at c (blocks_in l)) (take-append-le i chain (e ∷ []) le) in
       let at_end : config_in_force c new (length chain) ≡ config_at c (blocks_in chain) =
-          ap (λ (l : List Entry). config_at c (blocks_in l)) (take-append_seam chain (e ∷ [])) in
+      ap (λ (l : List Entry). config_at c (blocks_in l)) (take-append_seam chain (e ∷ [])) in
       let linked_last : (before : Entry) → slice_get new (length xs) ≡ Some before → follows_block before.0 e.0 ≡ true =
-          λ before there.
-          let same : tip_after x xs ≡ before = same_Some _ _ (sym tip ∙ there) in
-          subst (λ (b : Entry). follows_block b.0 e.0 ≡ true) same
-          (ap (λ n. is_linked (block_hash (tip_after x xs).0) n e.0) number ∙ parts.0) in
+      λ before there.
+      let same : tip_after x xs ≡ before = same_Some _ _ (sym tip ∙ there) in
+      subst (λ (b : Entry). follows_block b.0 e.0 ≡ true) same
+      (ap (λ n. is_linked (block_hash (tip_after x xs).0) n e.0) number ∙ parts.0) in
       record {
         first = is.first;
         linked = λ i before next there at.
             elim (get_last chain e (i + 1) next at) [
-            | inl k ↦ is.linked i before next (sym (get_front chain (e ∷ []) i (omega (arith, k.1))) ∙ there) k.0
-            | inr k ↦
-                let i_is : i ≡ length xs = omega (arith, k.0) in
-                subst (λ (n : Entry). follows_block before.0 n.0 ≡ true) k.1 (linked_last before (ap (λ n. slice_get new n) (sym i_is) ∙ there))
+              | inl k ↦ is.linked i before next (sym (get_front chain (e ∷ []) i (omega (arith, k.1))) ∙ there) k.0
+              | inr k ↦
+                  let i_is : i ≡ length xs = omega (arith, k.0) in
+                  subst (λ (n : Entry). follows_block before.0 n.0 ≡ true) k.1 (linked_last before (ap (λ n. slice_get new n) (sym i_is) ∙ there))
             ];
         lawful = λ i next at.
             elim (get_last chain e (i + 1) next at) [
-            | inl k ↦ ap (λ (d : Config). is_lawful d next.0) (in_front (i + 1) (omega (arith, k.1))) ∙ is.lawful i next k.0
-            | inr k ↦
-                let here : config_in_force c new (i + 1) ≡ config_at c (blocks_in chain) = ap (λ n. config_in_force c new n) k.0 ∙ at_end in
-                ap (λ (d : Config). is_lawful d next.0) here ∙ subst (λ (n : Entry). is_lawful (config_at c (blocks_in chain)) n.0 ≡ true) k.1 parts.1
+              | inl k ↦ ap (λ (d : Config). is_lawful d next.0) (in_front (i + 1) (omega (arith, k.1))) ∙ is.lawful i next k.0
+              | inr k ↦
+                  let here : config_in_force c new (i + 1) ≡ config_at c (blocks_in chain) = ap (λ n. config_in_force c new n) k.0 ∙ at_end in
+                  ap (λ (d : Config). is_lawful d next.0) here ∙ subst (λ (n : Entry). is_lawful (config_at c (blocks_in chain)) n.0 ≡ true) k.1 parts.1
             ];
         proved = λ i next at.
             elim (get_last chain e (i + 1) next at) [
-            | inl k ↦ ap (λ (d : Config). is_proved accepts d next) (in_front (i + 1) (omega (arith, k.1))) ∙ is.proved i next k.0
-            | inr k ↦
-                let here : config_in_force c new (i + 1) ≡ config_at c (blocks_in chain) = ap (λ n. config_in_force c new n) k.0 ∙ at_end in
-                ap (λ (d : Config). is_proved accepts d next) here ∙ subst (λ (n : Entry). is_proved accepts (config_at c (blocks_in chain)) n ≡ true) k.1 is_next.1
+              | inl k ↦ ap (λ (d : Config). is_proved accepts d next) (in_front (i + 1) (omega (arith, k.1))) ∙ is.proved i next k.0
+              | inr k ↦
+                  let here : config_in_force c new (i + 1) ≡ config_at c (blocks_in chain) = ap (λ n. config_in_force c new n) k.0 ∙ at_end in
+                  ap (λ (d : Config). is_proved accepts d next) here ∙ subst (λ (n : Entry). is_proved accepts (config_at c (blocks_in chain)) n ≡ true) k.1 is_next.1
             ];
       }
 

@@ -1,20 +1,18 @@
 -- Stored blocks that are read, up to the first that breaks the rules.
-use Rattle.std.proofs.Common.{◌≡◌, ℕ, ◌+◌, ◌≤◌, List, [], ◌∷◌, ◌++◌, length, map, take, drop, get_or, ◌-◌, ◌<◌, suc, length-drop, drop-cons, refl, sym, ◌∙◌, ap, subst, arith, append_assoc, Some, None, Ok, Err}
-use Rattle.std.specs.Prelude.{Option, Result}
+use Rattle.std.proofs.Common.{◌≡◌, ℕ, ◌+◌, ◌≤◌, List, [], ◌∷◌, ◌++◌, length, map, take, drop, get_or, ◌-◌, ◌<◌, suc, length-drop, drop-cons, sym, ◌∙◌, ap, subst, arith, append_assoc, None, Ok}
 use Rattle.std.proofs.lemmas.List.{append-nil, map-append, nil_from_length, take_all}
 use Rattle.ord_types.specs.Genesis.{IsGenesisConfig}
 use Rattle.ord_types.specs.declared.values.Config.{Config}
 use Rattle.signer_edge.specs.Accepts.{Accepts}
 use Rattle.block_ledger.specs.declared.fault.LedgerFault.{LedgerFault}
 use Rattle.block_ledger.specs.declared.fault.LedgerFault.TheVariants as fault_of
-use Rattle.block_ledger.specs.declared.fault.StoredWhy.{StoredWhy}
 use Rattle.block_ledger.specs.declared.blocks.Blocks.{Blocks}
 use Rattle.block_ledger.specs.Chains.{Entry, IsChain, genesis_entry}
-use Rattle.block_ledger.specs.Entries.{HasEntrySpelling, entry_text, read_entry}
+use Rattle.block_ledger.specs.Entries.{HasEntrySpelling, HaveSpelling, entry_text, read_entry}
+use Rattle.block_ledger.proofs.Adding.{spelled_more}
 use Rattle.block_ledger.specs.Judging.{entry_fault, stored_fault, stored_why}
 use Rattle.block_ledger.specs.Loading.{IsAdded, IsLoaded, TellsBad, TellsFault}
-use Rattle.block_ledger.specs.Places.{place_after}
-use Rattle.block_ledger.specs.Reading.{Stored, Bad, Chain, read_behind, read_chain}
+use Rattle.block_ledger.specs.Reading.{Stored, Bad, read_behind, read_chain}
 use Rattle.block_ledger.proofs.Linking.{begins}
 use Rattle.block_ledger.proofs.Refusing.{map_none}
 use Rattle.block_ledger.proofs.Storing.{fault_behind}
@@ -24,15 +22,17 @@ use Rattle.block_ledger.proofs.Telling.{genesis_where, next_is_added, read_one, 
 pub record IsReadSoFar (accepts : Accepts) (c : Config) (entries rest : List (List ℕ)) (chain : List Entry) : Type 0 where
   pub same : read_behind accepts c chain rest ≡ read_chain accepts c entries
   pub spells : entries ≡ map entry_text chain ++ rest
+  pub spelled : HaveSpelling chain
   pub is_chain : IsChain accepts c chain
   pub some : 1 ≤ length chain
 
 module _ (accepts : Accepts) (c : Config) where
-  one_read : (entry : Entry) (bytes : List ℕ) (rest : List (List ℕ)) → entry ≡ genesis_entry c → read_entry bytes ≡ Ok entry → bytes ≡ entry_text entry → entry_fault accepts c [] entry ≡ None
+  one_read : (entry : Entry) (bytes : List ℕ) (rest : List (List ℕ)) → entry ≡ genesis_entry c → read_entry bytes ≡ Ok entry → bytes ≡ entry_text entry → entry_fault accepts c [] entry ≡ None → HasEntrySpelling entry
       → IsReadSoFar accepts c (bytes ∷ rest) rest (entry ∷ [])
-  one_read entry bytes rest genesis read is sound = record {
+  one_read entry bytes rest genesis read is sound spelled = record {
     same = sym (read_one accepts c [] bytes entry rest read sound);
     spells = ap (λ (b : List ℕ). b ∷ rest) is;
+    spelled = (spelled, tt);
     is_chain = subst (λ (e : Entry). IsChain accepts c (e ∷ [])) (sym genesis) (begins accepts c);
     some = omega arith;
   }
@@ -42,16 +42,17 @@ module _ (accepts : Accepts) (c : Config) where
       → IsReadSoFar accepts c entries rest chain
   read_first entries rest bytes chain config parts added =
       let genesis = genesis_where c added.entry config added.spelled added.sound in
-      let one = one_read added.entry bytes rest genesis added.read added.is added.sound in
+      let one = one_read added.entry bytes rest genesis added.read added.is added.sound added.spelled in
       subst (λ (l : List (List ℕ)). IsReadSoFar accepts c l rest chain) (sym parts)
       (subst (λ (l : List Entry). IsReadSoFar accepts c (bytes ∷ rest) rest l) (sym added.added) one)
 
   step_read : (entries more : List (List ℕ)) (bytes : List ℕ) (chain : List Entry) (entry : Entry) → IsReadSoFar accepts c entries (bytes ∷ more) chain
-      → read_entry bytes ≡ Ok entry → bytes ≡ entry_text entry → entry_fault accepts c chain entry ≡ None → IsReadSoFar accepts c entries more (chain ++ entry ∷ [])
-  step_read entries more bytes chain entry so read is sound = record {
+      → read_entry bytes ≡ Ok entry → bytes ≡ entry_text entry → entry_fault accepts c chain entry ≡ None → HasEntrySpelling entry → IsReadSoFar accepts c entries more (chain ++ entry ∷ [])
+  step_read entries more bytes chain entry so read is sound spelled = record {
     same = sym (read_one accepts c chain bytes entry more read sound) ∙ so.same;
     spells = so.spells ∙ ap (λ (b : List ℕ). map entry_text chain ++ b ∷ more) is ∙ sym (append_assoc (map entry_text chain) (entry_text entry ∷ []) more)
         ∙ ap (λ (l : List (List ℕ)). l ++ more) (sym (map-append entry_text chain (entry ∷ [])));
+    spelled = spelled_more chain entry so.spelled spelled;
     is_chain = (next_is_added accepts c chain entry so.is_chain).0 (map_none stored_why _ (sym (fault_behind accepts c chain entry so.some) ∙ sound));
     some = some_more chain so.some;
   }
@@ -64,7 +65,7 @@ module _ (accepts : Accepts) (c : Config) where
   pub read_more : (entries more : List (List ℕ)) (bytes : List ℕ) (chain new : List Entry) → IsReadSoFar accepts c entries (bytes ∷ more) chain → IsAdded accepts c chain bytes new
       → IsReadSoFar accepts c entries more new
   read_more entries more bytes chain new so added =
-      subst (λ (l : List Entry). IsReadSoFar accepts c entries more l) (sym added.added) (step_read entries more bytes chain added.entry so added.read added.is added.sound)
+      subst (λ (l : List Entry). IsReadSoFar accepts c entries more l) (sym added.added) (step_read entries more bytes chain added.entry so added.read added.is added.sound added.spelled)
 
   -- one that breaks the rules
   pub bad_told : (chain : List Entry) (bytes : List ℕ) (more : List (List ℕ)) (stored : Stored) (fault : LedgerFault) → read_behind accepts c chain (bytes ∷ more) ≡ stored
@@ -90,6 +91,7 @@ module _ (accepts : Accepts) (c : Config) where
   all_read entries rest blocks so none config = record {
     stands = sym so.same ∙ ap (read_behind accepts c blocks.chain) none;
     spells = so.spells ∙ ap (λ (l : List (List ℕ)). map entry_text blocks.chain ++ l) none ∙ append-nil (map entry_text blocks.chain);
+    spelled = so.spelled;
     is_chain = so.is_chain;
     config = config;
   }

@@ -1,5 +1,5 @@
 -- Blocks in memory, and the place behind them.
-use Rattle.std.proofs.Common.{◌≡◌, ℕ, ◌+◌, ◌-◌, ◌<◌, ◌≤◌, ◌^◌, List, [], ◌∷◌, ◌++◌, length, take, refl, sym, ◌∙◌, ap, subst, arith, length-append, Some, None}
+use Rattle.std.proofs.Common.{◌≡◌, ℕ, ◌-◌, List, [], ◌∷◌, ◌++◌, length, take, refl, sym, ◌∙◌, ap, subst, arith, length-append, None}
 use Rattle.std.proofs.Math.Seq.{take-append_seam}
 use Rattle.ord_types.specs.Genesis.{IsGenesisConfig, genesis_block, genesis_meta}
 use Rattle.ord_types.specs.Hashes.{block_hash}

@@ -1,7 +1,6 @@
 -- How places move.
-use Rattle.std.proofs.Common.{◌≡◌, ℕ, ◌+◌, List, [], ◌∷◌, ◌++◌, length, refl, sym, ◌∙◌, ap, arith, length-append, Some, None, if◌then◌else◌}
-use Rattle.std.specs.Prelude.{is_some, slice_get}
-use Rattle.ord_types.specs.Genesis.{genesis_block, genesis_meta}
+use Rattle.std.proofs.Common.{◌≡◌, ℕ, ◌+◌, List, [], ◌∷◌, ◌++◌, length, refl, arith, length-append}
+use Rattle.ord_types.specs.Genesis.{genesis_block}
 use Rattle.ord_types.specs.declared.values.Block.{Block}
 use Rattle.ord_types.specs.declared.values.Config.{Config}
 use Rattle.chan_config.specs.Blocks.{change_in, config_at, config_or}

@@ -1,16 +1,14 @@
 -- What may come next is refused by nothing.
-use Rattle.std.proofs.Common.{◌≡◌, ℕ, ◌+◌, Bool, true, false, not, ◌&&◌, if◌then◌else◌, List, Some, None, Ok, Err, refl, sym, ◌∙◌, ap, subst}
+use Rattle.std.proofs.Common.{◌≡◌, ℕ, Bool, true, false, not, ◌&&◌, if◌then◌else◌, List, Some, None, Ok, Err, refl, sym, ◌∙◌, ap}
 use Rattle.std.specs.Prelude.{Result, Option, is_ok, is_none, ◌↔◌, ◌<◌, ◌^◌, ◌==◌, nat_lt}
 use Rattle.std.specs.Option.{option_map, option_or}
 use Rattle.std.specs.Result.{result_err}
 use Rattle.std.proofs.lemmas.Option.{none-some}
 use Rattle.ord_types.specs.Hashes.{block_hash}
 use Rattle.ord_types.specs.Members.{is_raft}
-use Rattle.ord_types.specs.declared.values.Block.{Block}
 use Rattle.ord_types.specs.declared.values.Cert.{Cert}
 use Rattle.ord_types.specs.declared.values.Config.{Config}
 use Rattle.ord_types.specs.declared.values.Place.{Place}
-use Rattle.ord_types.specs.declared.values.Proof.{Proof}
 use Rattle.ord_types.specs.declared.values.Proof.TheVariants as proof_of
 use Rattle.signer_edge.specs.Accepts.{Accepts}
 use Rattle.signer_edge.specs.Certificates.{cert_refusal, is_good_cert}
@@ -23,7 +21,6 @@ use Rattle.std.proofs.lemmas.Bool.{and_parts, ltb-true}
 use Rattle.chan_config.specs.Refusals.{checked, refusal_at}
 use Rattle.chan_config.specs.declared.checks.BlockRefusal.{BlockRefusal}
 use Rattle.chan_config.proofs.BlockLaws.{refuses_rightly}
-use Rattle.block_ledger.specs.declared.fault.NextRefusal.{NextRefusal}
 use Rattle.block_ledger.specs.declared.fault.NextRefusal.TheVariants as next_of
 use Rattle.block_ledger.specs.Chains.{Entry, is_proved}
 use Rattle.block_ledger.specs.Judging.{next_refusal, proof_refusal}

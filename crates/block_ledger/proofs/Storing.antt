@@ -1,5 +1,5 @@
 -- One stored block after another.
-use Rattle.std.proofs.Common.{◌≡◌, ℕ, ◌+◌, ◌≤◌, List, [], ◌∷◌, ◌++◌, length, map, drop, refl, sym, ◌∙◌, ap, subst, arith, Some, None, Ok, Err}
+use Rattle.std.proofs.Common.{◌≡◌, ℕ, ◌≤◌, List, [], ◌∷◌, ◌++◌, length, refl, sym, ◌∙◌, ap, arith, Some, None, Ok, Err}
 use Rattle.std.specs.Prelude.{Option, Result}
 use Rattle.std.specs.Option.{option_map}
 use Rattle.ord_types.specs.declared.fault.ReadFault.{ReadFault}
@@ -10,14 +10,13 @@ use Rattle.block_ledger.specs.declared.fault.LedgerFault.{LedgerFault}
 use Rattle.block_ledger.specs.declared.fault.LedgerFault.TheVariants as fault_of
 use Rattle.block_ledger.specs.declared.fault.NextRefusal.{NextRefusal}
 use Rattle.block_ledger.specs.declared.fault.StoredWhy.{StoredWhy}
-use Rattle.block_ledger.specs.Chains.{Entry, IsChain}
+use Rattle.block_ledger.specs.Chains.{Entry}
 use Rattle.block_ledger.specs.Entries.{read_entry}
 use Rattle.block_ledger.specs.Judging.{entry_fault, next_refusal, stored_fault, stored_why}
 use Rattle.block_ledger.specs.Loading.{IsAdded, IsReadAs, TellsFault, grammar_why}
 use Rattle.block_ledger.specs.Orders.{IsInOrder}
 use Rattle.block_ledger.specs.Places.{place_after}
 use Rattle.block_ledger.proofs.Placing.{height_of_place}
-use Rattle.block_ledger.proofs.Refusing.{none_map}
 
 module _ (accepts : Accepts) where
   pub fault_behind : (c : Config) (chain : List Entry) (e : Entry) → 1 ≤ length chain → entry_fault accepts c chain e ≡ option_map stored_why (next_refusal accepts (place_after c chain) e)

@@ -1,7 +1,6 @@
 -- The first block that breaks the rules, and the chain that a file stands for.
-use Rattle.std.proofs.Common.{◌≡◌, inl, inr, ℕ, ◌+◌, ◌<◌, ◌≤◌, Bool, true, false, List, [], ◌∷◌, ◌++◌, length, map, refl, sym, ◌∙◌, ap, subst, arith, Some, None, Ok, Err, append_assoc, if◌then◌else◌}
-use Rattle.std.specs.Prelude.{slice_get, Option, Result, ◌↔◌}
-use Rattle.std.specs.Option.{option_map}
+use Rattle.std.proofs.Common.{◌≡◌, ℕ, Bool, true, false, List, [], ◌∷◌, ◌++◌, length, map, refl, sym, ◌∙◌, ap, subst, Some, None, Ok, Err, append_assoc, if◌then◌else◌}
+use Rattle.std.specs.Prelude.{Option, Result, ◌↔◌}
 use Rattle.std.specs.Str.{bytes_eq}
 use Rattle.std.proofs.lemmas.List.{append-nil}
 use Rattle.std.proofs.lemmas.Option.{none-some, same_Some}
@@ -21,11 +20,11 @@ use Rattle.ord_types.proofs.ValueLaws.{block_law}
 use Rattle.signer_edge.specs.Accepts.{Accepts}
 use Rattle.block_ledger.specs.declared.fault.StoredWhy.{StoredWhy}
 use Rattle.block_ledger.specs.declared.fault.StoredWhy.TheVariants as why_of
-use Rattle.block_ledger.specs.Chains.{Entry, IsChain, IsGenesis, genesis_entry}
+use Rattle.block_ledger.specs.Chains.{Entry, IsChain, genesis_entry}
 use Rattle.block_ledger.specs.Entries.{HasEntrySpelling, HaveSpelling, entry_text, place_of, read_entry}
 use Rattle.block_ledger.specs.Judging.{entry_fault, fault_or, first_fault, genesis_fault, genesis_proof_fault, next_refusal, stored_fault, stored_why}
 use Rattle.block_ledger.specs.Places.{place_after}
-use Rattle.block_ledger.specs.Reading.{Stored, Bad, Chain, bad_or, read_behind, read_chain}
+use Rattle.block_ledger.specs.Reading.{Bad, Chain, bad_or, read_behind, read_chain}
 use Rattle.block_ledger.proofs.EntryLaws.{reads_entry}
 use Rattle.block_ledger.proofs.Linking.{begins, grows, next_in}
 use Rattle.block_ledger.proofs.Refusing.{map_none, none_map}
@@ -100,16 +99,16 @@ module _ (accepts : Accepts) (c : Config) where
       → read_behind accepts c before (bytes ∷ more) ≡ read_behind accepts c (before ++ e ∷ []) more
   read_one before bytes e more read none =
       ap (λ (r : Result Entry ReadFault). elim r [
-          | Ok x ↦ bad_or (length before) (entry_fault accepts c before x) (read_behind accepts c (before ++ x ∷ []) more)
-          | Err fault ↦ Bad (length before) (why_of.Grammar (place_of fault))
-          ]) read
+        | Ok x ↦ bad_or (length before) (entry_fault accepts c before x) (read_behind accepts c (before ++ x ∷ []) more)
+        | Err fault ↦ Bad (length before) (why_of.Grammar (place_of fault))
+      ]) read
       ∙ ap (λ (f : Option StoredWhy). bad_or (length before) f (read_behind accepts c (before ++ e ∷ []) more)) none
 
   bad_one : (before : List Entry) (r : Result Entry ReadFault) (why : StoredWhy) (more : List (List ℕ)) → stored_fault accepts c before r ≡ Some why
       → (elim r [
-          | Ok x ↦ bad_or (length before) (entry_fault accepts c before x) (read_behind accepts c (before ++ x ∷ []) more)
-          | Err fault ↦ Bad (length before) (why_of.Grammar (place_of fault))
-          ]) ≡ Bad (length before) why
+        | Ok x ↦ bad_or (length before) (entry_fault accepts c before x) (read_behind accepts c (before ++ x ∷ []) more)
+        | Err fault ↦ Bad (length before) (why_of.Grammar (place_of fault))
+      ]) ≡ Bad (length before) why
   bad_one before (Ok e) why more h = ap (λ (f : Option StoredWhy). bad_or (length before) f (read_behind accepts c (before ++ e ∷ []) more)) h
   bad_one before (Err fault) why more h = ap (Bad (length before)) (same_Some _ _ h)
 

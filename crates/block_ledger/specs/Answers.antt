@@ -1,8 +1,7 @@
 -- What the calls of a ledger answer.
-use Rattle.std.specs.Prelude.{◌≡◌, Bool, false, ℕ, ◌+◌, ◌^◌, nat_lt, nat_le, List, length, take, if◌then◌else◌, Option, Some, None, Result, Ok, Err}
+use Rattle.std.specs.Prelude.{◌≡◌, Bool, false, ℕ, ◌+◌, ◌^◌, nat_lt, length, if◌then◌else◌, Option, Some, None, Result, Ok, Err}
 use Rattle.std.specs.Option.{option_map, option_or}
 use Rattle.ord_types.specs.Causes.{Rose}
-use Rattle.ord_types.specs.declared.values.Config.{Config}
 use Rattle.ord_types.specs.declared.values.Place.{Place}
 use Rattle.gate_log.specs.declared.fault.LogFault.{LogFault}
 use Rattle.gate_log.specs.declared.fault.LogFault.TheVariants as log_of
@@ -13,9 +12,8 @@ use Rattle.block_ledger.specs.declared.fault.LedgerFault.{LedgerFault}
 use Rattle.block_ledger.specs.declared.fault.LedgerFault.TheVariants as fault_of
 use Rattle.block_ledger.specs.declared.fault.NextRefusal.{NextRefusal}
 use Rattle.block_ledger.specs.declared.fault.NextRefusal.TheVariants as next_of
-use Rattle.block_ledger.specs.declared.fault.StoredWhy.{StoredWhy}
 use Rattle.block_ledger.specs.declared.ledger.Ledger.{Ledger}
-use Rattle.block_ledger.specs.Chains.{Entry, config_in_force}
+use Rattle.block_ledger.specs.Chains.{Entry}
 use Rattle.block_ledger.specs.Entries.{entry_text}
 use Rattle.block_ledger.specs.Judging.{next_refusal}
 use Rattle.block_ledger.specs.Ledgers.{blocks_of}
@@ -97,4 +95,3 @@ GivesBlock entry (Err fault) = fault ≡ fault_of.NoMemory
 abbrev pub OnFailed : {T : Type 0} → Result T LedgerFault → Type 0 → Type 0
 OnFailed (Err fault_of.Failed) P = P
 OnFailed result P = Unit {0}
-

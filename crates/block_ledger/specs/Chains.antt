@@ -1,5 +1,5 @@
 -- Chains of blocks, each with what proves it.
-use Rattle.std.specs.Prelude.{◌≡◌, ℕ, ◌+◌, Bool, true, ◌&&◌, not, List, [], ◌∷◌, map, take, slice_get, Some}
+use Rattle.std.specs.Prelude.{◌≡◌, ℕ, ◌+◌, Bool, true, ◌&&◌, not, List, map, take, slice_get, Some}
 use Rattle.ord_types.specs.Genesis.{IsGenesisConfig, genesis_block}
 use Rattle.ord_types.specs.Hashes.{block_hash}
 use Rattle.ord_types.specs.Members.{is_raft}

@@ -1,5 +1,5 @@
 -- How a block and its proof are spelled in a ledger's file.
-use Rattle.std.specs.Prelude.{ℕ, List, ◌++◌, length, Result, Ok, Err}
+use Rattle.std.specs.Prelude.{ℕ, List, ◌++◌, length, Result, Ok}
 use Rattle.std.specs.List.{AllByRecursion}
 use Rattle.ord_types.specs.Faults.{whole}
 use Rattle.ord_types.specs.Grammar.{HasBlockSpelling, HasProofSpelling}

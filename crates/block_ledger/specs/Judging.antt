@@ -7,7 +7,6 @@ use Rattle.ord_types.specs.Hashes.{block_hash}
 use Rattle.ord_types.specs.Members.{is_raft}
 use Rattle.ord_types.specs.Spelling.{block_text}
 use Rattle.ord_types.specs.declared.fault.ReadFault.{ReadFault}
-use Rattle.ord_types.specs.declared.values.Block.{Block}
 use Rattle.ord_types.specs.declared.values.Config.{Config}
 use Rattle.ord_types.specs.declared.values.Place.{Place}
 use Rattle.ord_types.specs.declared.values.Proof.{Proof}

@@ -1,10 +1,9 @@
 -- What holds of chains, of places, and of the ledger's file.
-use Rattle.std.specs.Prelude.{◌≡◌, ◌↔◌, ℕ, ◌+◌, List, [], ◌∷◌, ◌++◌, length, map, None, true}
+use Rattle.std.specs.Prelude.{◌≡◌, ◌↔◌, ℕ, ◌+◌, List, [], ◌∷◌, ◌++◌, map, None}
 use Rattle.ord_types.specs.Genesis.{IsGenesisConfig}
 use Rattle.ord_types.specs.declared.values.Config.{Config}
 use Rattle.gate_log.specs.Disk.{State, MayLeave}
-use Rattle.gate_log.specs.Format.{gate_after, reading}
-use Rattle.gate_log.specs.declared.reading.Reading.TheVariants.{Log}
+use Rattle.gate_log.specs.Format.{gate_after}
 use Rattle.signer_edge.specs.Accepts.{Accepts}
 use Rattle.signer_edge.specs.Signing.{KeepsAccepted}
 use Rattle.block_ledger.specs.declared.ledger.Ledger.{Ledger}

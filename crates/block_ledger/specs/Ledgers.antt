@@ -6,7 +6,7 @@ use Rattle.gate_log.specs.Settled.{IsSettled}
 use Rattle.signer_edge.specs.Accepts.{Accepts}
 use Rattle.block_ledger.specs.Chains.{Entry, IsChain}
 use Rattle.block_ledger.specs.Entries.{HaveSpelling, entry_text}
-use Rattle.block_ledger.specs.Reading.{Stored, Chain, stands_for}
+use Rattle.block_ledger.specs.Reading.{Chain, stands_for}
 use Rattle.block_ledger.specs.declared.ledger.Ledger.{Ledger}
 
 -- the blocks of a ledger with their proofs, block 0 first

@@ -10,7 +10,7 @@ use Rattle.ord_types.specs.declared.fault.ReadFault.{ReadFault}
 use Rattle.ord_types.specs.declared.fault.ReadFault.TheVariants as read_of
 use Rattle.block_ledger.specs.declared.blocks.Blocks.{Blocks}
 use Rattle.block_ledger.specs.Chains.{Entry, IsChain}
-use Rattle.block_ledger.specs.Entries.{HasEntrySpelling, entry_text, place_of, read_entry}
+use Rattle.block_ledger.specs.Entries.{HasEntrySpelling, HaveSpelling, entry_text, place_of, read_entry}
 use Rattle.block_ledger.specs.Judging.{entry_fault, stored_fault}
 use Rattle.block_ledger.specs.Reading.{Stored, Bad, Chain}
 
@@ -66,6 +66,7 @@ BeginsStored accepts c bytes (Err fault) = TellsFault 0 (stored_fault accepts c 
 pub record IsLoaded (accepts : Accepts) (c : Config) (entries : List (List ℕ)) (stored : Stored) (blocks : Blocks) : Type 0 where
   pub stands : stored ≡ Chain blocks.chain
   pub spells : entries ≡ map entry_text blocks.chain
+  pub spelled : HaveSpelling blocks.chain
   pub is_chain : IsChain accepts c blocks.chain
   pub config : blocks.place.config ≡ c
 

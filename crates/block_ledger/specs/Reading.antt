@@ -1,6 +1,5 @@
 -- What a ledger's file stands for.
-use Rattle.std.specs.Prelude.{ℕ, List, [], ◌∷◌, ◌++◌, length, Option, Some, None, Result, Ok, Err}
-use Rattle.ord_types.specs.declared.fault.ReadFault.{ReadFault}
+use Rattle.std.specs.Prelude.{ℕ, List, [], ◌∷◌, ◌++◌, length, Option, Some, None, Ok, Err}
 use Rattle.ord_types.specs.declared.values.Config.{Config}
 use Rattle.gate_log.specs.Format.{reading}
 use Rattle.gate_log.specs.declared.reading.Reading.{Reading}
@@ -29,8 +28,8 @@ abbrev pub read_behind : Accepts → Config → List Entry → List (List ℕ) �
 read_behind accepts c before [] = Chain before
 read_behind accepts c before (bytes ∷ more) =
     elim (read_entry bytes) [
-    | Ok e ↦ bad_or (length before) (entry_fault accepts c before e) (read_behind accepts c (before ++ e ∷ []) more)
-    | Err fault ↦ Bad (length before) (Grammar (place_of fault))
+      | Ok e ↦ bad_or (length before) (entry_fault accepts c before e) (read_behind accepts c (before ++ e ∷ []) more)
+      | Err fault ↦ Bad (length before) (Grammar (place_of fault))
     ]
 
 -- what the entries of a log stand for: where there are none, for what is made of it, the genesis block

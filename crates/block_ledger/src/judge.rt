@@ -98,10 +98,7 @@ pub fn genesis_fault(
     ensures { (c : Config) → IsGenesis c genesis.now → IfOk result (λ fault. fault ≡ genesis_fault c (block.now, proof.now)) }
 {
     if !is_same(alloc, block, genesis)? {
-        return Ok(Some(StoredWhy::Other(
-            block_hash(&block.header),
-            block_hash(&genesis.header),
-        )));
+        return Ok(Some(StoredWhy::Other(block_hash(&block.header), block_hash(&genesis.header))));
     }
     match proof {
         Proof::Raft => Ok(None),

@@ -6,6 +6,8 @@ mod blocks;
 mod chain;
 mod entry;
 mod fault;
+#[cfg(test)]
+mod fixtures;
 mod judge;
 mod laws;
 mod ledger;

@@ -1,305 +1,17 @@
-// The bytes were written out by hand, the hashes made elsewhere.
-ghost use Rattle.std.specs.Prelude.{◌≡◌, ◌≤◌, IfOk};
-ghost use Rattle.ord_types.specs.Causes.{Rose};
-ghost use Rattle.ord_types.specs.Genesis.{IsGenesisConfig};
+ghost use Rattle.std.specs.Prelude.{◌≡◌};
 ghost use Rattle.block_ledger.specs.Chains.{IsSomeGenesis};
-ghost use Rattle.block_ledger.specs.Entries.{HasEntrySpelling};
 
-use crate::entry::read_entry;
+use crate::fixtures::{
+    Behind, Echo, FIRST, Made, ONE, Quiet, RAFT_ZERO, SECOND, TWO, ZERO, crashed, empty, entry_of,
+    genesis_entry, genesis_of, put_behind, sealed, stored,
+};
 use crate::{Ledger, LedgerFault, StoredWhy};
 use chan_config::BlockRefusal;
-use gate_log::{Disk, GateLog, Image, MemDisk};
-use ord_types::{
-    Batch, Block, Bytes, Config, Copied, Digest, Failed, Kind, List, Mode, NoMemory, Proof, Sig,
-    block_hash, genesis_block,
-};
-use signer_edge::{CertRefusal, Verifier, commit_statement};
+use gate_log::Image;
+use ord_types::{Block, Bytes, Copied, Kind, List, block_hash};
+use signer_edge::CertRefusal;
 use std::alloc::Global;
 use std::test::Fail;
-
-// A disk in memory of which nothing is told, so that a test needs no proof of what it holds.
-#[derive(Drop)]
-struct Quiet {
-    disk: MemDisk,
-    faults: u64,
-}
-
-impl Quiet {
-    fn fault(&mut self) -> Failed
-        ensures { (self.old.faults ≤ self.new.faults) × Rose self.old.faults self.new.faults }
-    {
-        self.faults = self.faults.saturating_add(1);
-        Failed
-    }
-}
-
-impl Disk for Quiet {
-    ghost use Rattle.std.specs.Prelude.{false, []};
-    ghost use Rattle.std.proofs.lemmas.Bool.{false≢true};
-
-    ghost tells = { λ _. false };
-
-    ghost moments = { λ _. [] };
-
-    ghost faults = { λ quiet. quiet.faults };
-
-    fn len(&mut self, file: u8) -> Result<u64, Failed> {
-        match self.disk.len(file) {
-            Ok(len) => Ok(len),
-            Err(_) => Err(self.fault()),
-        }
-    }
-
-    fn read(&mut self, file: u8, at: u64, into: &mut [u8]) -> Result<usize, Failed> {
-        let Ok(len) = self.disk.len(file) else {
-            return Err(self.fault());
-        };
-        if at >= len {
-            return Err(self.fault());
-        }
-        match self.disk.read(file, at, into) {
-            Ok(count) => Ok(count),
-            Err(_) => Err(self.fault()),
-        }
-    }
-
-    fn write_at(&mut self, file: u8, at: u64, bytes: &[u8]) -> Result<(), Failed> {
-        match self.disk.write_at(file, at, bytes) {
-            Ok(()) => Ok(()),
-            Err(_) => Err(self.fault()),
-        }
-    }
-
-    fn sync(&mut self, file: u8) -> Result<(), Failed> {
-        match self.disk.sync(file) {
-            Ok(()) => Ok(()),
-            Err(_) => Err(self.fault()),
-        }
-    }
-
-    ghost reads_is_left = { λ quiet file told. absurd (false≢true told) };
-}
-
-fn empty(alloc: Global) -> Result<Quiet, NoMemory> {
-    let disk = MemDisk::new(alloc)?;
-    Ok(Quiet { disk, faults: 0 })
-}
-
-// The disk after a crash.
-fn crashed(quiet: Quiet, image: Image) -> Result<Quiet, NoMemory> {
-    let disk = quiet.disk.crash(image)?;
-    Ok(Quiet { disk, faults: 0 })
-}
-
-// Accepts a signature that repeats its statement.
-#[derive(Clone, Copy)]
-struct Echo;
-
-impl Verifier for Echo {
-    ghost use Rattle.std.specs.Str.{bytes_eq};
-
-    ghost accepts = { λ _ statement sig. bytes_eq sig.bytes statement };
-
-    fn verify(&self, statement: &[u8], sig: &Sig) -> bool {
-        sig.bytes.as_slice() == statement
-    }
-}
-
-// One ordinary request 7:1 with the payload `abc`, and its hash.
-const REQUESTS: [u8; 24] = *b"\0\0\0\x01\x01\0\0\0\x07\0\0\0\0\0\0\0\x01\0\0\0\x03abc";
-
-const CONTENT: Digest = [
-    0x35, 0x95, 0x30, 0x22, 0xa7, 0x33, 0x99, 0x97, 0xa6, 0xc9, 0x1c, 0xd0, 0xaf, 0x00, 0x15, 0xc3,
-    0x1c, 0x36, 0x29, 0x35, 0x41, 0xd0, 0x57, 0x68, 0x71, 0xe5, 0x84, 0xfa, 0x3b, 0x5f, 0x94, 0x01,
-];
-
-// The hash of a meta under configuration 0, in view 0, with nothing else.
-const META: Digest = [
-    0x65, 0x9d, 0x36, 0xca, 0x56, 0x3b, 0xa4, 0x62, 0x2d, 0xaa, 0xbb, 0x36, 0xa7, 0x1d, 0xaf, 0xaf,
-    0x60, 0x60, 0xcd, 0xcb, 0xf8, 0x9b, 0xb1, 0x2e, 0x75, 0x42, 0x61, 0x98, 0x49, 0x6d, 0x27, 0x2c,
-];
-
-// The hashes of the BFT genesis block, of a block 1 behind it and of a block 2 behind that.
-const ZERO: Digest = [
-    0xb0, 0x90, 0x21, 0xce, 0xc1, 0xeb, 0xc3, 0x8d, 0x7f, 0xec, 0xde, 0x56, 0xc3, 0xe6, 0x3b, 0xbb,
-    0x0d, 0x13, 0xea, 0xe9, 0x70, 0x7f, 0xc1, 0x55, 0x74, 0xff, 0xbc, 0xb4, 0xeb, 0x54, 0xf3, 0xdd,
-];
-
-const ONE: Digest = [
-    0xc0, 0x28, 0x3c, 0x49, 0x94, 0x50, 0x22, 0x86, 0x57, 0xf7, 0xdb, 0x6a, 0x2a, 0xd8, 0x36, 0x87,
-    0xa7, 0xcb, 0x76, 0xc0, 0x38, 0xc2, 0xd1, 0x7b, 0x0f, 0x95, 0xbf, 0xf3, 0xef, 0x30, 0x76, 0x01,
-];
-
-const TWO: Digest = [
-    0x0d, 0xd7, 0x5e, 0x6d, 0x0b, 0xea, 0x26, 0x4e, 0x68, 0x07, 0x48, 0xed, 0xba, 0xef, 0xbe, 0xca,
-    0x92, 0x6f, 0x17, 0x7a, 0xc6, 0x20, 0xed, 0x93, 0x14, 0x95, 0xc9, 0x63, 0x27, 0x32, 0x2a, 0x8d,
-];
-
-// The hash of the Raft genesis block.
-const RAFT_ZERO: Digest = [
-    0x67, 0x28, 0x12, 0x62, 0x29, 0x68, 0x8a, 0xc9, 0x51, 0xa5, 0x1c, 0xb8, 0x07, 0x51, 0x4a, 0x34,
-    0xac, 0x08, 0x3d, 0xb7, 0x64, 0x66, 0x21, 0xe2, 0xfd, 0x91, 0x0f, 0x74, 0x15, 0xbe, 0x26, 0xa1,
-];
-
-// Members 1 to 4.
-fn config_of_four(alloc: Global, kind: Kind) -> Result<Config, NoMemory>
-    ensures { IfOk result IsGenesisConfig }
-{
-    let mut members = List::new(alloc);
-    members.push(1)?;
-    members.push(2)?;
-    members.push(3)?;
-    members.push(4)?;
-    Ok(Config {
-        number: 0,
-        kind,
-        mode: Mode::Normal,
-        members,
-        batch: Batch {
-            count: 2,
-            preferred: 20,
-            absolute: 1000,
-            wait: 10,
-        },
-        rotation: 0,
-    })
-}
-
-fn genesis_of(alloc: Global, kind: Kind) -> Result<Block, NoMemory>
-    ensures { IfOk result IsSomeGenesis }
-{
-    let config = config_of_four(alloc, kind)?;
-    Ok(genesis_block(alloc, &config)?)
-}
-
-// What is behind a block: nothing, or the signatures of these, in view 0. `flip` changes a bit of the last one.
-#[derive(Clone, Copy)]
-enum Behind {
-    Raft,
-    Signed { signers: &'static [u32], flip: bool },
-}
-
-const GOOD: Behind = Behind::Signed {
-    signers: &[1, 3, 4],
-    flip: false,
-};
-
-// A block of one request, and what is behind it.
-#[derive(Clone, Copy)]
-struct Made {
-    number: u64,
-    previous: Digest,
-    hash: Digest,
-    content: Digest,
-    config: u8,
-    behind: Behind,
-}
-
-const FIRST: Made = Made {
-    number: 1,
-    previous: ZERO,
-    hash: ONE,
-    content: CONTENT,
-    config: 0,
-    behind: GOOD,
-};
-
-const SECOND: Made = Made {
-    number: 2,
-    previous: ONE,
-    hash: TWO,
-    content: CONTENT,
-    config: 0,
-    behind: GOOD,
-};
-
-fn put_sigs(
-    bytes: &mut Bytes,
-    statement: &[u8],
-    signers: &[u32],
-    flip: bool,
-) -> Result<(), NoMemory> {
-    for signer in signers {
-        bytes.extend_from_slice(&signer.to_be_bytes())?;
-        bytes.extend_from_slice(b"\0\x39")?;
-        bytes.extend_from_slice(statement)?;
-    }
-    if flip {
-        bytes.truncate(bytes.len().saturating_sub(1));
-        bytes.push(statement[56] ^ 1)?;
-    }
-    Ok(())
-}
-
-fn put_behind(bytes: &mut Bytes, made: Made) -> Result<(), NoMemory> {
-    match made.behind {
-        Behind::Raft => bytes.push(0)?,
-        Behind::Signed { signers, flip } => {
-            let statement = commit_statement(0, 0, made.number, &made.hash);
-            bytes.push(1)?;
-            bytes.extend_from_slice(&[0; 8])?;
-            bytes.push(signers.len() as u8)?;
-            put_sigs(bytes, &statement, signers, flip)?;
-        }
-    }
-    Ok(())
-}
-
-fn entry_of(alloc: Global, made: Made) -> Result<Bytes, NoMemory> {
-    let mut bytes = Bytes::from_slice(alloc, &made.number.to_be_bytes())?;
-    bytes.extend_from_slice(&made.previous)?;
-    bytes.extend_from_slice(&made.content)?;
-    bytes.extend_from_slice(&META)?;
-    bytes.extend_from_slice(&REQUESTS)?;
-    bytes.extend_from_slice(&[0, 0, 0, 0, 0, 0, 0, made.config])?;
-    bytes.extend_from_slice(&[0; 18])?;
-    put_behind(&mut bytes, made)?;
-    Ok(bytes)
-}
-
-// The block and what is behind it.
-fn sealed(alloc: Global, made: Made) -> Result<(Block, Proof), Fail>
-    ensures { IfOk result HasEntrySpelling }
-{
-    let bytes = entry_of(alloc, made)?;
-    match read_entry(alloc, bytes.as_slice()) {
-        Ok(entry) => Ok(entry),
-        Err(_) => Err(Fail::from("an entry that can be read")),
-    }
-}
-
-// The bytes of a ledger's entries, one after another.
-fn stored(alloc: Global, entries: &[Bytes]) -> Result<Quiet, Fail> {
-    let mut quiet = empty(alloc)?;
-    let mut log = match GateLog::open(alloc, &mut quiet, 2) {
-        Ok(log) => log,
-        Err(_) => return Err(Fail::from("a log")),
-    };
-    for entry in entries {
-        if log.append(alloc, &mut quiet, entry.as_slice()).is_err() {
-            return Err(Fail::from("an append"));
-        }
-    }
-    Ok(quiet)
-}
-
-// The entry of the genesis block, which an empty ledger gets.
-fn genesis_entry(alloc: Global, genesis: &Block) -> Result<Bytes, Fail>
-    requires { IsSomeGenesis genesis.now }
-{
-    let mut quiet = empty(alloc)?;
-    if Ledger::open(alloc, &mut quiet, genesis, &Echo).is_err() {
-        return Err(Fail::from("a new ledger"));
-    }
-    let log = match GateLog::open(alloc, &mut quiet, 2) {
-        Ok(log) => log,
-        Err(_) => return Err(Fail::from("a log")),
-    };
-    match log.entries().as_slice() {
-        [entry] => Ok(entry.copy()?),
-        _ => Err(Fail::from("one entry")),
-    }
-}
 
 // The height of the ledger, or why it doesn't open.
 fn opened(alloc: Global, quiet: &mut Quiet, genesis: &Block) -> Result<u64, LedgerFault>
@@ -323,7 +35,10 @@ fn a_chain_of_three(rt: HostRuntime) -> Result<(), Fail> {
     assert_eq!(rt; ledger.last_hash(), ZERO);
     for made in [FIRST, SECOND] {
         let (block, proof) = sealed(alloc, made)?;
-        assert_eq!(rt; ledger.append(alloc, &mut quiet, block, proof, &Echo), Ok(()));
+        assert_eq!(rt;
+            ledger.append(alloc, &mut quiet, block, proof, &Echo),
+            Ok(())
+        );
     }
     assert_eq!(rt; ledger.height(), 3);
     assert_eq!(rt; ledger.last_hash(), TWO);
@@ -356,18 +71,6 @@ fn refused_appends(rt: HostRuntime) -> Result<(), Fail> {
         Ok(ledger) => ledger,
         Err(_) => return Err(Fail::from("a new ledger")),
     };
-    let few = Behind::Signed {
-        signers: &[2, 4],
-        flip: false,
-    };
-    let strange = Behind::Signed {
-        signers: &[1, 2, 9],
-        flip: false,
-    };
-    let flipped = Behind::Signed {
-        signers: &[1, 2, 3],
-        flip: true,
-    };
     for (made, fault) in [
         (SECOND, LedgerFault::WrongNumber(2)),
         (
@@ -386,10 +89,7 @@ fn refused_appends(rt: HostRuntime) -> Result<(), Fail> {
             LedgerFault::BadBlock(BlockRefusal::WrongContent),
         ),
         (
-            Made {
-                config: 1,
-                ..FIRST
-            },
+            Made { config: 1, ..FIRST },
             LedgerFault::BadBlock(BlockRefusal::WrongMeta),
         ),
         (
@@ -401,31 +101,264 @@ fn refused_appends(rt: HostRuntime) -> Result<(), Fail> {
         ),
         (
             Made {
-                behind: few,
+                behind: FEW,
                 ..FIRST
             },
             LedgerFault::BadCert(CertRefusal::Few(2, 3)),
         ),
         (
             Made {
-                behind: strange,
+                behind: STRANGE,
                 ..FIRST
             },
             LedgerFault::BadCert(CertRefusal::Stranger(9)),
         ),
         (
             Made {
-                behind: flipped,
+                behind: FLIPPED,
                 ..FIRST
             },
             LedgerFault::BadCert(CertRefusal::Bad(3)),
         ),
     ] {
         let (block, proof) = sealed(alloc, made)?;
-        assert_eq!(rt; ledger.append(alloc, &mut quiet, block, proof, &Echo), Err(fault));
+        assert_eq!(rt;
+            ledger.append(alloc, &mut quiet, block, proof, &Echo),
+            Err(fault)
+        );
         assert_eq!(rt; ledger.height(), 1);
     }
     let (block, proof) = sealed(alloc, FIRST)?;
-    assert_eq!(rt; ledger.append(alloc, &mut quiet, block, proof, &Echo), Ok(()));
+    assert_eq!(rt;
+        ledger.append(alloc, &mut quiet, block, proof, &Echo),
+        Ok(())
+    );
+    Ok(())
+}
+
+// How the bytes of the last entry are changed.
+#[derive(Clone, Copy)]
+enum Change {
+    Nothing,
+    // to so many bytes
+    Cut(usize),
+    // by one more byte
+    More,
+    // this byte at a place
+    Byte(usize, u8),
+}
+
+fn changed(alloc: Global, bytes: &Bytes, change: Change) -> Result<Bytes, Fail> {
+    let mut new = bytes.copy()?;
+    match change {
+        Change::Nothing => {}
+        Change::Cut(count) => new.truncate(count),
+        Change::More => new.push(0)?,
+        Change::Byte(at, byte) => {
+            if at >= bytes.len() {
+                return Err(Fail::from("a place in the bytes"));
+            }
+            new = Bytes::from_slice(alloc, &bytes.as_slice()[..at])?;
+            new.push(byte)?;
+            new.extend_from_slice(&bytes.as_slice()[at + 1..])?;
+        }
+    }
+    Ok(new)
+}
+
+// What a file opens to that has the genesis block and these, the last one changed.
+fn reopened(
+    alloc: Global,
+    genesis: &Block,
+    blocks: &[Made],
+    change: Change,
+) -> Result<Result<u64, LedgerFault>, Fail>
+    requires { IsSomeGenesis genesis.now }
+{
+    let mut last = genesis_entry(alloc, genesis)?;
+    let mut entries = List::new(alloc);
+    for made in blocks {
+        entries.push(last)?;
+        last = entry_of(alloc, *made)?;
+    }
+    entries.push(changed(alloc, &last, change)?)?;
+    let mut quiet = stored(alloc, entries.as_slice())?;
+    Ok(opened(alloc, &mut quiet, genesis))
+}
+
+fn block_fault(number: u64, refusal: BlockRefusal) -> Result<u64, LedgerFault> {
+    Err(LedgerFault::Stored(number, StoredWhy::Block(refusal)))
+}
+
+fn cert_fault(number: u64, refusal: CertRefusal) -> Result<u64, LedgerFault> {
+    Err(LedgerFault::Stored(number, StoredWhy::Cert(refusal)))
+}
+
+fn grammar_fault(number: u64, at: usize) -> Result<u64, LedgerFault> {
+    Err(LedgerFault::Stored(number, StoredWhy::Grammar(at)))
+}
+
+const FEW: Behind = Behind::Signed {
+    signers: &[2, 4],
+    flip: false,
+};
+
+const STRANGE: Behind = Behind::Signed {
+    signers: &[1, 2, 9],
+    flip: false,
+};
+
+// One bit of the last signature is changed.
+const FLIPPED: Behind = Behind::Signed {
+    signers: &[1, 2, 3],
+    flip: true,
+};
+
+#[test]
+fn stored_blocks(rt: HostRuntime) -> Result<(), Fail> {
+    let alloc = rt.alloc();
+    let genesis = genesis_of(alloc, Kind::Bft)?;
+    let nothing = Change::Nothing;
+    let unlinked = Made {
+        previous: ZERO,
+        ..SECOND
+    };
+    let other_content = Made {
+        content: ONE,
+        ..SECOND
+    };
+    let unsigned = Made {
+        behind: Behind::Raft,
+        ..FIRST
+    };
+    let few = Made {
+        behind: FEW,
+        ..FIRST
+    };
+    let strange = Made {
+        behind: STRANGE,
+        ..FIRST
+    };
+    let flipped = Made {
+        behind: FLIPPED,
+        ..FIRST
+    };
+    let cases: [(&[Made], Change, Result<u64, LedgerFault>); 15] = [
+        (&[], nothing, Ok(1)),
+        (&[FIRST, SECOND], nothing, Ok(3)),
+        (&[FIRST], Change::Cut(352), grammar_fault(1, 352)),
+        (&[FIRST, SECOND], Change::Cut(0), grammar_fault(2, 0)),
+        (&[FIRST], Change::More, grammar_fault(1, 353)),
+        (&[FIRST], Change::Byte(0, 0xff), grammar_fault(1, 0)),
+        (&[FIRST], Change::Byte(154, 2), grammar_fault(1, 154)),
+        (
+            &[SECOND],
+            nothing,
+            block_fault(1, BlockRefusal::WrongNumber(2)),
+        ),
+        (
+            &[FIRST, unlinked],
+            nothing,
+            block_fault(2, BlockRefusal::WrongPrevious(ZERO, ONE)),
+        ),
+        (
+            &[FIRST, other_content],
+            nothing,
+            block_fault(2, BlockRefusal::WrongContent),
+        ),
+        (
+            &[unsigned, SECOND],
+            Change::More,
+            Err(LedgerFault::Stored(1, StoredWhy::Proof)),
+        ),
+        (&[few], nothing, cert_fault(1, CertRefusal::Few(2, 3))),
+        (&[strange], nothing, cert_fault(1, CertRefusal::Stranger(9))),
+        (
+            &[flipped, SECOND],
+            nothing,
+            cert_fault(1, CertRefusal::Bad(3)),
+        ),
+        // the payload of block 0 alone is another one
+        (
+            &[],
+            Change::Byte(130, 7),
+            Err(LedgerFault::Stored(0, StoredWhy::Other(ZERO, ZERO))),
+        ),
+    ];
+    for (blocks, change, answer) in cases {
+        assert_eq!(rt; reopened(alloc, &genesis, blocks, change)?, answer);
+    }
+    Ok(())
+}
+
+#[test]
+fn genesis_with_a_certificate(rt: HostRuntime) -> Result<(), Fail> {
+    let alloc = rt.alloc();
+    let genesis = genesis_of(alloc, Kind::Bft)?;
+    let mut entry = genesis_entry(alloc, &genesis)?;
+    entry.truncate(entry.len().saturating_sub(1));
+    put_behind(&mut entry, FIRST)?;
+    let mut quiet = stored(alloc, &[entry])?;
+    assert_eq!(rt;
+        opened(alloc, &mut quiet, &genesis),
+        Err(LedgerFault::Stored(0, StoredWhy::Proof))
+    );
+    Ok(())
+}
+
+const IMAGES: [Image; 4] = [Image::Keep, Image::Undo, Image::Fill(0), Image::Fill(0x7f)];
+
+// Whether a gate that is written as 1 over 0 is open in this image.
+fn opens(image: Image) -> bool {
+    match image {
+        Image::Keep => true,
+        Image::Undo => false,
+        Image::Fill(byte) => byte != 0,
+    }
+}
+
+#[test]
+fn stopped_appends(rt: HostRuntime) -> Result<(), Fail> {
+    let alloc = rt.alloc();
+    let genesis = genesis_of(alloc, Kind::Bft)?;
+    for image in IMAGES {
+        for call in 1..=5 {
+            let mut quiet = stored(
+                alloc,
+                &[genesis_entry(alloc, &genesis)?, entry_of(alloc, FIRST)?],
+            )?;
+            let mut ledger = match Ledger::open(alloc, &mut quiet, &genesis, &Echo) {
+                Ok(ledger) => ledger,
+                Err(_) => return Err(Fail::from("a ledger of two blocks")),
+            };
+            let (block, proof) = sealed(alloc, SECOND)?;
+            quiet.disk.arm(call, image);
+            let answer = ledger.append(alloc, &mut quiet, block, proof, &Echo);
+            assert_eq!(rt; answer.is_ok(), call == 5);
+            assert_eq!(rt; ledger.height(), if call == 5 { 3 } else { 2 });
+            let mut left = crashed(quiet, image)?;
+            let added = call == 5 || (call >= 3 && opens(image));
+            let height = if added { 3 } else { 2 };
+            assert_eq!(rt; opened(alloc, &mut left, &genesis), Ok(height));
+        }
+    }
+    Ok(())
+}
+
+#[test]
+fn stopped_opens(rt: HostRuntime) -> Result<(), Fail> {
+    let alloc = rt.alloc();
+    let genesis = genesis_of(alloc, Kind::Raft)?;
+    for image in IMAGES {
+        for call in 1..=12 {
+            let mut quiet = empty(alloc)?;
+            quiet.disk.arm(call, image);
+            // one sync, three writes with their syncs for the log, two for block 0
+            let answer = opened(alloc, &mut quiet, &genesis);
+            assert_eq!(rt; answer.is_ok(), call == 12);
+            let mut left = crashed(quiet, image)?;
+            assert_eq!(rt; opened(alloc, &mut left, &genesis), Ok(1));
+        }
+    }
     Ok(())
 }

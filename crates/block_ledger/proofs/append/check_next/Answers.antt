@@ -1,4 +1,4 @@
-use Rattle.std.proofs.Common.{◌≡◌, ◌∙◌, sym, subst, Some, Err}
+use Rattle.std.proofs.Common.{◌∙◌, sym, subst, Err}
 use Rattle.block_ledger.specs.Answers.{ChecksNext}
 use Rattle.block_ledger.specs.Judging.{next_refusal}
 use Rattle.block_ledger.proofs.Adding.{refusal_told}

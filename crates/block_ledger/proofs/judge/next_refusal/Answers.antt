@@ -1,7 +1,6 @@
-use Rattle.std.proofs.Common.{◌≡◌, sym, ◌∙◌, ap, refl, subst, Some, None, Ok, Err}
+use Rattle.std.proofs.Common.{◌≡◌, sym, ◌∙◌, ap, subst}
 use Rattle.std.specs.Prelude.{Option, IfOk}
 use Rattle.std.specs.Option.{option_map, option_or}
-use Rattle.chan_config.specs.Refusals.{checked, refusal_at}
 use Rattle.block_ledger.specs.declared.fault.NextRefusal.{NextRefusal}
 use Rattle.block_ledger.specs.declared.fault.NextRefusal.TheVariants as next_of
 use Rattle.block_ledger.specs.Judging.{next_refusal, proof_refusal}
@@ -16,11 +15,11 @@ returns-clause-refusal g c =
     let rest = proof_refusal accepts place.config (c.args.block.now, c.args.proof.now) in
     let wanted = λ (r : Option NextRefusal). r ≡ next_refusal accepts place (c.args.block.now, c.args.proof.now) in
     elim c.match-check_block.branch [
-    | in-Err-NoMemory w ↦ subst (λ r. IfOk r wanted) (sym w.result-is) tt
-    | in-Err w ↦
-        let refusal = checked_some _ _ (sym c.check_block.ensures.exact ∙ w.in-Err.is) in
-        subst (λ r. IfOk r wanted) (sym w.result-is) (ap (λ o. option_or (option_map next_of.Block o) rest) (sym refusal))
-    | in-Ok w ↦
-        let none = checked_none _ _ (sym c.check_block.ensures.exact ∙ w.in-Ok.is) in
-        subst (λ r. IfOk r wanted) (sym w.result-is) (w.proof_refusal.ensures ∙ ap (λ o. option_or (option_map next_of.Block o) rest) (sym none))
+      | in-Err-NoMemory w ↦ subst (λ r. IfOk r wanted) (sym w.result-is) tt
+      | in-Err w ↦
+          let refusal = checked_some _ _ (sym c.check_block.ensures.exact ∙ w.in-Err.is) in
+          subst (λ r. IfOk r wanted) (sym w.result-is) (ap (λ o. option_or (option_map next_of.Block o) rest) (sym refusal))
+      | in-Ok w ↦
+          let none = checked_none _ _ (sym c.check_block.ensures.exact ∙ w.in-Ok.is) in
+          subst (λ r. IfOk r wanted) (sym w.result-is) (w.proof_refusal.ensures ∙ ap (λ o. option_or (option_map next_of.Block o) rest) (sym none))
     ]

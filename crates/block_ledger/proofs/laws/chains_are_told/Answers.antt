@@ -1,4 +1,3 @@
-use Rattle.std.proofs.Common.{[], ◌∷◌, ◌++◌}
 use Rattle.block_ledger.proofs.Linking.{chain_stays}
 use Rattle.block_ledger.proofs.Telling.{faults_are_told, next_is_added, reads_chain}
 use Rattle.block_ledger.proofs.laws.chains_are_told.Goals as goal

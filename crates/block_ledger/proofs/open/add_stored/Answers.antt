@@ -1,5 +1,4 @@
-use Rattle.std.proofs.Common.{◌≡◌, ◌∙◌, sym, ap, Some, None}
-use Rattle.block_ledger.specs.Chains.{Entry}
+use Rattle.std.proofs.Common.{◌∙◌, sym, ap, Some}
 use Rattle.block_ledger.proofs.Refusing.{has_room_for}
 use Rattle.block_ledger.proofs.Storing.{fault_stored, grammar_told, height_is, is_added}
 use Rattle.block_ledger.proofs.open.add_stored.Goals as goal

@@ -1,6 +1,4 @@
-use Rattle.std.proofs.Common.{◌≡◌, ◌∙◌, ap, sym, subst, refl, arith, length, drop, ◌++◌}
-use Rattle.ord_types.specs.Spelling.{config_text, sig_text}
-use Rattle.ord_types.specs.Genesis.{genesis_block, genesis_request, genesis_sig}
+use Rattle.std.proofs.Common.{◌∙◌, ap, sym, subst, arith, length}
 use Rattle.block_ledger.specs.Chains.{IsGenesis}
 use Rattle.block_ledger.proofs.Beginning.{config_read, one_request, request_of}
 use Rattle.block_ledger.proofs.open.config_in.Goals as goal

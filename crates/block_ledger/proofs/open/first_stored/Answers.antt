@@ -1,4 +1,4 @@
-use Rattle.std.proofs.Common.{◌∙◌, sym, ap, [], ◌∷◌, ◌++◌}
+use Rattle.std.proofs.Common.{◌∙◌, sym, ap, [], ◌∷◌}
 use Rattle.block_ledger.specs.Chains.{Entry}
 use Rattle.block_ledger.proofs.Beginning.{genesis_spelling}
 use Rattle.block_ledger.proofs.Telling.{genesis_where}
@@ -19,8 +19,7 @@ returns c = λ accepts.
     let entry : Entry = (c.in_ok-block.block, c.in_ok-block.proof) in
     let none = sym (c.in_ok-why.ensures c.args.config c.requires) ∙ c.in_default.is in
     let same = genesis_where c.args.config entry c.requires.config c.in_ok-block.ensures.spelled none in
-    let read = c.in_ok-block.ensures in
-    (
+    let read = c.in_ok-block.ensures in (
       record { entry = entry; read = read.read; spelled = read.spelled; is = read.is; sound = none; added = c.in_ok-blocks.ensures.chain ∙ ap (λ (e : Entry). e ∷ []) (sym same) },
-      c.in_ok-blocks.ensures.config
+      c.in_ok-blocks.ensures.config,
     )

@@ -1,4 +1,4 @@
-use Rattle.std.proofs.Common.{◌≡◌, ℕ, List, ◌∙◌, length, sym, ap, subst, drop}
+use Rattle.std.proofs.Common.{ℕ, List, ◌∙◌, length, sym, ap, subst}
 use Rattle.ord_types.specs.declared.values.Config.{Config}
 use Rattle.block_ledger.specs.Entries.{read_entry}
 use Rattle.block_ledger.specs.Judging.{stored_fault}

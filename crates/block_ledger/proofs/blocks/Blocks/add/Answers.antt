@@ -1,4 +1,4 @@
-use Rattle.std.proofs.Common.{◌∙◌, ap}
+use Rattle.std.proofs.Common.{◌∙◌}
 use Rattle.block_ledger.proofs.Ordering.{next_config_is, next_in_order}
 use Rattle.block_ledger.proofs.blocks.Blocks.add.Goals as goal
 

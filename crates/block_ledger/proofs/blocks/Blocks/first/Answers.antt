@@ -1,6 +1,4 @@
-use Rattle.std.proofs.Common.{ap, ◌∙◌, ◌∷◌, ◌++◌}
-use Rattle.ord_types.specs.declared.values.Proof.TheVariants as proof_of
-use Rattle.block_ledger.specs.Chains.{Entry, genesis_entry}
+use Rattle.std.proofs.Common.{◌∙◌}
 use Rattle.block_ledger.proofs.Ordering.{first_chain_is, first_in_order, first_place_is}
 use Rattle.block_ledger.proofs.blocks.Blocks.first.Goals as goal
 

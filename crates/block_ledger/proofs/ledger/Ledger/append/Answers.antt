@@ -1,4 +1,4 @@
-use Rattle.std.proofs.Common.{◌≡◌, ◌∙◌, ℕ, ◌+◌, List, [], ◌∷◌, ◌++◌, map, refl, sym, ap, subst, Some, None, Ok, Err}
+use Rattle.std.proofs.Common.{◌≡◌, ◌∙◌, ◌+◌, map, refl, sym, ap, subst, None, Err}
 use Rattle.ord_types.specs.declared.values.Place.{Place}
 use Rattle.gate_log.specs.Runs.{Leaves}
 use Rattle.gate_log.specs.Settled.{IsWithOrWithout as LogWithOrWithout}
@@ -8,7 +8,6 @@ use Rattle.block_ledger.specs.Chains.{Entry, IsChain}
 use Rattle.block_ledger.specs.Entries.{HaveSpelling, entry_text}
 use Rattle.block_ledger.specs.Judging.{next_refusal}
 use Rattle.block_ledger.specs.Ledgers.{IsWithOrWithout, blocks_of, end_of, first_config}
-use Rattle.block_ledger.specs.Places.{place_after}
 use Rattle.block_ledger.proofs.Adding.{crash_between, handed_told, log_told, memory_refused, memory_told, refused_told, spelled_more, texts_more, written_told}
 use Rattle.block_ledger.proofs.Ordering.{back_in_order, taken_back}
 use Rattle.block_ledger.proofs.Refusing.{has_room_for}

@@ -1,5 +1,5 @@
-use Rattle.std.proofs.Common.{ap, sym, ◌∙◌, subst, ◌≤◌, ◌<◌, arith, take, length}
-use Rattle.block_ledger.specs.Chains.{blocks_in, config_in_force}
+use Rattle.std.proofs.Common.{ap, sym, ◌∙◌, arith, take}
+use Rattle.block_ledger.specs.Chains.{blocks_in}
 use Rattle.block_ledger.specs.Ledgers.{blocks_of, first_config}
 use Rattle.block_ledger.proofs.Placing.{config_stays, height_of_place}
 use Rattle.block_ledger.proofs.ledger.Ledger.config_at.Goals as goal
