@@ -1,11 +1,11 @@
 -- The fold, one record after another.
-use Rattle.std.proofs.Common.{◌≡◌, ◌≢◌, inl, inr, ℕ, zero, suc, ◌+◌, ◌-◌, ◌<◌, ◌≤◌, Bool, true, false, List, [], ◌∷◌, ◌++◌, length, get_or, take, drop, Option, Some, None, filter, filter_map, option_map, refl, sym, ◌∙◌, ap, subst, arith, append_assoc}
-use Rattle.std.specs.Prelude.{nat_le, max, if◌then◌else◌}
+use Rattle.std.proofs.Common.{◌≡◌, inl, inr, ℕ, suc, ◌+◌, ◌-◌, ◌<◌, ◌≤◌, true, false, List, [], ◌∷◌, ◌++◌, length, get_or, take, Option, Some, None, filter_map, option_map, refl, sym, ◌∙◌, ap, arith, append_assoc}
+use Rattle.std.specs.Prelude.{nat_le, max}
 use Rattle.std.specs.List.{last_or}
 use Rattle.std.proofs.lemmas.Bool.Decides.{leb_tells}
-use Rattle.std.proofs.lemmas.List.{append-nil, drop_more, take_more}
+use Rattle.std.proofs.lemmas.List.{append-nil, take_more}
 use Rattle.std.proofs.lemmas.List.Elements.{filter_map-append}
-use Rattle.bft_wal.specs.Fold.{Acceptance, Tally, acceptance_in, added, bound_in, entered_view, extended, greatest, in_front, later, later_than, left_view, newest, newest_vote, newest_votes, view_voted, counted, preparation_in, raised, replaced, tail_in, tally_of, vote_in}
+use Rattle.bft_wal.specs.Fold.{Acceptance, acceptance_in, added, bound_in, entered_view, extended, greatest, in_front, later, later_than, left_view, newest_vote, newest_votes, view_voted, counted, preparation_in, raised, replaced, tail_in, tally_of, vote_in}
 use Rattle.ord_types.specs.declared.values.Vote.{Vote}
 use Rattle.bft_wal.specs.Opening.{records_in}
 use Rattle.bft_wal.specs.Reading.{record_in}

@@ -1,6 +1,6 @@
 -- What one more record changes of what is durable.
-use Rattle.std.proofs.Common.{◌≡◌, ◌≢◌, inl, inr, ℕ, zero, suc, ◌+◌, ◌<◌, ◌≤◌, Bool, true, false, cond, List, [], ◌∷◌, ◌++◌, length, take, Option, Some, None, IfSome, filter, option_map, unwrap_or, refl, sym, ◌∙◌, ap, subst, arith}
-use Rattle.std.specs.Prelude.{nat_le, nat_lt, ◌==◌, ◌&&◌, ◌||◌, max, if◌then◌else◌}
+use Rattle.std.proofs.Common.{◌≡◌, inl, inr, ℕ, zero, suc, ◌<◌, ◌≤◌, Bool, true, false, cond, List, [], ◌∷◌, ◌++◌, take, Option, Some, None, IfSome, filter, option_map, refl, sym, ◌∙◌, ap, subst, arith}
+use Rattle.std.specs.Prelude.{nat_le, nat_lt, ◌==◌, ◌&&◌, ◌||◌, if◌then◌else◌}
 use Rattle.std.specs.List.{last_or, list_any}
 use Rattle.std.specs.Str.{bytes_eq}
 use Rattle.std.proofs.lemmas.Bool.{eq-eqb}
@@ -10,8 +10,8 @@ use Rattle.std.proofs.lemmas.List.Elements.{filter-append}
 use Rattle.ord_types.specs.Hashes.{block_hash}
 use Rattle.ord_types.specs.declared.values.Block.{Block}
 use Rattle.ord_types.specs.declared.values.Vote.{Vote}
-use Rattle.bft_wal.specs.Fold.{Acceptance, Durable, Tally, added, block_of, choice_of, durable_of, extended, folded, has_digest, in_front, is_accepted, is_below, last_block, later, later_than, newest, newest_below, newest_prepared, newest_vote, newest_votes, raised, replaced, tally_of, view_accepted, view_voted, with_block, with_its}
-use Rattle.bft_wal.specs.Laws.{AcceptingAdds, AreBelow, EnteringAdds, IsNew, LeavingAdds, NothingElseAdds, PreparingAdds, TailingAdds, VotingAdds, is_of}
+use Rattle.bft_wal.specs.Fold.{Acceptance, added, block_of, choice_of, durable_of, extended, folded, has_digest, in_front, is_accepted, is_below, later, later_than, newest, newest_below, newest_prepared, newest_vote, newest_votes, raised, replaced, tally_of, view_accepted, view_voted, with_block, with_its}
+use Rattle.bft_wal.specs.Laws.{AcceptingAdds, AreBelow, EnteringAdds, IsNew, LeavingAdds, NothingElseAdds, PreparingAdds, TailingAdds, VotingAdds}
 use Rattle.bft_wal.specs.Records.{WalRecord}
 use Rattle.bft_wal.specs.declared.record.WalRecord.TheVariants as record_of
 use Rattle.bft_wal.proofs.Folding.{tally_more}

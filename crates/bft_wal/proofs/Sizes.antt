@@ -1,10 +1,10 @@
 -- How long the texts of records are.
-use Rattle.std.proofs.Common.{◌≡◌, ℕ, ◌+◌, ◌*◌, ◌<◌, ◌≤◌, ◌^◌, List, [], ◌∷◌, ◌++◌, length, Option, Some, None, IfSome, arith, length-append, ◌∙◌, ap}
+use Rattle.std.proofs.Common.{◌≡◌, ℕ, ◌+◌, ◌*◌, ◌<◌, ◌≤◌, ◌^◌, List, [], ◌∷◌, ◌++◌, length, Option, Some, None, IfSome, arith, length-append, ap}
 use Rattle.std.specs.Int.{w8, w32, w64, to_be_bytes}
 use Rattle.std.specs.List.{AllByRecursion, flat_map}
 use Rattle.std.proofs.lemmas.List.Concat.{flat_map-cons}
 use Rattle.ord_types.specs.Grammar.{HasBlockSpelling, HasRequestSpelling, HasVoteSpelling}
-use Rattle.ord_types.specs.Spelling.{block_text, ids_text, meta_text, option_text, request_text, requests_text, vote_text}
+use Rattle.ord_types.specs.Spelling.{block_text, option_text, request_text, vote_text}
 use Rattle.ord_types.specs.declared.values.Block.{Block}
 use Rattle.ord_types.specs.declared.values.Request.{Request}
 use Rattle.ord_types.specs.declared.values.Vote.{Vote}

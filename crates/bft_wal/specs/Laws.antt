@@ -1,11 +1,10 @@
 -- What one more record changes.
-use Rattle.std.specs.Prelude.{◌≡◌, ◌≢◌, ◌⊎◌, ℕ, ◌<◌, ◌≤◌, Bool, true, false, not, ◌==◌, ◌&&◌, max, List, [], ◌∷◌, ◌++◌, take, Option, Some, None, IfSome, IsTrue, if◌then◌else◌}
-use Rattle.std.specs.List.{list_any}
+use Rattle.std.specs.Prelude.{◌≡◌, ℕ, ◌<◌, ◌≤◌, Bool, true, false, ◌==◌, ◌&&◌, max, List, [], ◌∷◌, ◌++◌, take, Option, Some, IfSome}
 use Rattle.std.specs.Str.{bytes_eq}
 use Rattle.ord_types.specs.Hashes.{block_hash}
 use Rattle.ord_types.specs.declared.values.Block.{Block}
 use Rattle.ord_types.specs.declared.values.Vote.{Vote}
-use Rattle.bft_wal.specs.Fold.{Durable, choice_of, durable_of, last_block, tally_of}
+use Rattle.bft_wal.specs.Fold.{choice_of, durable_of, last_block, tally_of}
 use Rattle.bft_wal.specs.Records.{WalRecord}
 use Rattle.bft_wal.specs.declared.record.WalRecord.TheVariants as record_of
 

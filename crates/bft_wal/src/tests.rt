@@ -223,10 +223,31 @@ fn records_as_bytes(rt: HostRuntime) -> Result<(), Fail> {
     Ok(())
 }
 
+const BROKEN: &[u8] = b"\x01\0\0\0\x09\x03";
+
+// An entry by a letter.
+fn entry(letter: u8) -> &'static [u8] {
+    match letter {
+        // records: views 2 and 4 are left for
+        b'l' => b"\x03\0\0\0\0\0\0\0\x01\0\0\0\0\0\0\0\x02",
+        b'm' => b"\x03\0\0\0\0\0\0\0\x01\0\0\0\0\0\0\0\x04",
+        // none: of no kind, of a kind that isn't there, cut short, with a byte behind it, with too large a number, with
+        // no candidate
+        b'n' => b"\0\0\0\0\0\0\0\0\x01\0\0\0\0\0\0\0\x02",
+        b'k' => b"\x07\0\0\0\0\0\0\0\x01\0\0\0\0\0\0\0\x02",
+        b'c' => b"\x03\0\0\0\0\0\0\0\x01\0\0\0\0\0\0\0",
+        b't' => b"\x03\0\0\0\0\0\0\0\x01\0\0\0\0\0\0\0\x02\0",
+        b'g' => b"\x03\x40\0\0\0\0\0\0\0\0\0\0\0\0\0\0\x02",
+        b'v' => b"\x05\0\0\0\0\0\0\0\x01\0\0\0\0",
+        _ => b"",
+    }
+}
+
 // A file of one log with these entries behind open gates, and this at its end.
-fn file_of(alloc: Global, entries: &[&[u8]], end: &[u8]) -> Result<Vec<u8>, NoMemory> {
+fn file_of(alloc: Global, letters: &[u8], end: &[u8]) -> Result<Vec<u8>, NoMemory> {
     let mut bytes = Vec::from_slice(alloc, b"ORDLOG1\n\x01\0\0\0\0\0\0\0\x01")?;
-    for entry in entries {
+    for letter in letters {
+        let entry = entry(*letter);
         bytes.push(1)?;
         bytes.extend_from_slice(&(entry.len() as u32).to_be_bytes())?;
         bytes.extend_from_slice(entry)?;
@@ -235,55 +256,37 @@ fn file_of(alloc: Global, entries: &[&[u8]], end: &[u8]) -> Result<Vec<u8>, NoMe
     Ok(bytes)
 }
 
-const LEFT: &[u8] = b"\x03\0\0\0\0\0\0\0\x01\0\0\0\0\0\0\0\x02";
-
-const LEFT_LATER: &[u8] = b"\x03\0\0\0\0\0\0\0\x01\0\0\0\0\0\0\0\x04";
-
-const NO_KIND: &[u8] = b"\0\0\0\0\0\0\0\0\x01\0\0\0\0\0\0\0\x02";
-
-const NO_SUCH_KIND: &[u8] = b"\x07\0\0\0\0\0\0\0\x01\0\0\0\0\0\0\0\x02";
-
-const CUT: &[u8] = b"\x03\0\0\0\0\0\0\0\x01\0\0\0\0\0\0\0";
-
-const TRAILED: &[u8] = b"\x03\0\0\0\0\0\0\0\x01\0\0\0\0\0\0\0\x02\0";
-
-const LARGE: &[u8] = b"\x03\x40\0\0\0\0\0\0\0\0\0\0\0\0\0\0\x02";
-
-const NO_CANDIDATE: &[u8] = b"\x05\0\0\0\0\0\0\0\x01\0\0\0\0";
-
-const BROKEN: &[u8] = b"\x01\0\0\0\x09\x03";
-
 #[test]
 fn files(rt: HostRuntime) -> Result<(), Fail> {
     // a record of 17 bytes behind the gate at 17, and the next gate at 39
-    for (entries, end, answer) in [
-        ([LEFT, LEFT_LATER].as_slice(), b"\0".as_slice(), Ok(4)),
-        (&[], b"\0", Ok(0)),
+    for (letters, end, answer) in [
+        (b"lm".as_slice(), b"\0".as_slice(), Ok(4)),
+        (b"", b"\0", Ok(0)),
         // what stands behind a closed gate is ignored, be it a record or not
         (
-            &[LEFT],
+            b"l",
             b"\0\0\0\0\x11\x03\0\0\0\0\0\0\0\x01\0\0\0\0\0\0\0\x04\0",
             Ok(2),
         ),
-        (&[LEFT], b"\0\0\0\0\x01\x09\0", Ok(2)),
+        (b"l", b"\0\0\0\0\x01\x09\0", Ok(2)),
         // an entry that is no record
-        (&[CUT, LEFT], b"\0", Err(LogFault::Foreign(17))),
-        (&[LEFT, CUT], b"\0", Err(LogFault::Foreign(39))),
-        (&[LEFT, TRAILED], b"\0", Err(LogFault::Foreign(39))),
-        (&[LEFT, NO_KIND], b"\0", Err(LogFault::Foreign(39))),
-        (&[LEFT, NO_SUCH_KIND], b"\0", Err(LogFault::Foreign(39))),
-        (&[LEFT, LEFT, LARGE], b"\0", Err(LogFault::Foreign(61))),
-        (&[b"", LEFT], b"\0", Err(LogFault::Foreign(17))),
-        (&[NO_CANDIDATE, CUT], b"\0", Err(LogFault::Foreign(17))),
+        (b"cl", b"\0", Err(LogFault::Foreign(17))),
+        (b"lc", b"\0", Err(LogFault::Foreign(39))),
+        (b"lt", b"\0", Err(LogFault::Foreign(39))),
+        (b"ln", b"\0", Err(LogFault::Foreign(39))),
+        (b"lk", b"\0", Err(LogFault::Foreign(39))),
+        (b"llg", b"\0", Err(LogFault::Foreign(61))),
+        (b"-l", b"\0", Err(LogFault::Foreign(17))),
+        (b"vc", b"\0", Err(LogFault::Foreign(17))),
         // a broken gate alone, and behind a wrong entry
-        (&[], BROKEN, Err(LogFault::Foreign(17))),
-        (&[LEFT, LEFT], BROKEN, Err(LogFault::Foreign(61))),
-        (&[LEFT, LEFT], b"", Err(LogFault::Foreign(39))),
-        (&[LEFT, CUT], BROKEN, Err(LogFault::Foreign(39))),
-        (&[CUT, LEFT], BROKEN, Err(LogFault::Foreign(17))),
-        (&[LEFT, LEFT, CUT], BROKEN, Err(LogFault::Foreign(61))),
+        (b"", BROKEN, Err(LogFault::Foreign(17))),
+        (b"ll", BROKEN, Err(LogFault::Foreign(61))),
+        (b"ll", b"", Err(LogFault::Foreign(39))),
+        (b"lc", BROKEN, Err(LogFault::Foreign(39))),
+        (b"cl", BROKEN, Err(LogFault::Foreign(17))),
+        (b"llc", BROKEN, Err(LogFault::Foreign(61))),
     ] {
-        let bytes = file_of(rt.alloc(), entries, end)?;
+        let bytes = file_of(rt.alloc(), letters, end)?;
         let mut quiet = holding(rt.alloc(), &bytes)?;
         let left = match durable(rt.alloc(), &mut quiet) {
             Ok(durable) => Ok(durable.left),

@@ -1,5 +1,5 @@
 use Rattle.std.proofs.Common.{◌≡◌, None, refl, ◌∙◌, ap}
-use Rattle.bft_wal.specs.Fold.{Acceptance, block_of, newest_below, newest_prepared, newest_votes, with_block}
+use Rattle.bft_wal.specs.Fold.{block_of, newest_below, newest_prepared, newest_votes, with_block}
 use Rattle.bft_wal.proofs.Opens.{no_value}
 use Rattle.bft_wal.proofs.fold.fold.Goals as goal
 

@@ -1,4 +1,4 @@
-use Rattle.std.proofs.Common.{ℕ, ◌≡◌, Some, ◌∙◌, ap, subst}
+use Rattle.std.proofs.Common.{ℕ, ◌∙◌, ap, subst}
 use Rattle.gate_log.specs.Runs.{Leaves}
 use Rattle.gate_log.specs.Settled.{IsWithOrWithout as IsLogWithOrWithout}
 use Rattle.gate_log.proofs.Going.{leaves_to}

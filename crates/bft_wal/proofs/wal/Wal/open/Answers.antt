@@ -1,4 +1,4 @@
-use Rattle.std.proofs.Common.{◌≡◌, ℕ, List, option_map, min, ◌-◌, ◌^◌, refl, sym, ◌∙◌, ap, arith}
+use Rattle.std.proofs.Common.{ℕ, List, option_map, min, ◌-◌, ◌^◌, refl, sym, ◌∙◌, ap, arith}
 use Rattle.gate_log.proofs.Going.{leaves_none_more}
 use Rattle.bft_wal.specs.Opening.{first_wrong, records_or}
 use Rattle.bft_wal.proofs.Opens.{leaves_as_before, opens_opened, other_cause, other_value, still, told_wrong}

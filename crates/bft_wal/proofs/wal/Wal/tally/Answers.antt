@@ -1,4 +1,4 @@
-use Rattle.std.proofs.Common.{◌≡◌, ◌<◌, ℕ, List, length, get_or, ◌∙◌, ap, subst, take, ◌≤◌}
+use Rattle.std.proofs.Common.{◌≡◌, ◌<◌, ℕ, List, length, get_or, ◌∙◌, ap, subst, ◌≤◌}
 use Rattle.std.proofs.lemmas.List.{take_all}
 use Rattle.bft_wal.specs.Fold.{Tally, counted, tally_of}
 use Rattle.bft_wal.specs.Opening.{records_in}
