@@ -1,0 +1,13 @@
+//! What a node holds durable: its ledger and its log over one disk, and what an opening makes of them.
+#![tactic(auto)]
+
+mod fault;
+mod laws;
+mod open;
+mod resume;
+mod store;
+mod write;
+
+pub use fault::{OpenFault, StoreFault};
+pub use laws::{deeds_are_found, stored_deeds_stand};
+pub use store::Store;
