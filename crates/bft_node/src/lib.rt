@@ -2,10 +2,14 @@
 #![tactic(auto)]
 
 mod fault;
+#[cfg(test)]
+mod fixtures;
 mod laws;
 mod open;
 mod resume;
 mod store;
+#[cfg(test)]
+mod tests;
 mod write;
 
 pub use fault::{OpenFault, StoreFault};
