@@ -10,7 +10,7 @@ use bft_wire::Prepare;
 use chan_config::check_block;
 use gate_log::{Disk, Image};
 use ord_types::{Block, Cert, Kind, Place, block_hash};
-use signer_edge::check_cert;
+use signer_edge::{Verifier, check_cert};
 use std::alloc::Global;
 use std::test::Fail;
 use view_core::{Act, ViewState};
@@ -24,18 +24,24 @@ enum Deed {
 }
 
 // Whether the block with its certificate may come next.
-fn is_next(alloc: Global, place: &Place, block: &Block, cert: &Cert) -> bool
-    ensures { IsTrue result → next_refusal (Echo.accepts Echo) place.now (block.now, Bft cert.now) ≡ None }
+fn is_next<V: Verifier>(
+    alloc: Global,
+    place: &Place,
+    block: &Block,
+    cert: &Cert,
+    verifier: &V,
+) -> bool
+    ensures { IsTrue result → next_refusal (V.accepts verifier.now) place.now (block.now, Bft cert.now) ≡ None }
 {
     let members = place.config.members.len();
     match place.config.kind {
         Kind::Raft => false,
         Kind::Bft => {
-            if members < 1 || members > 31 || check_block(alloc, place, block, &Echo).is_err() {
+            if members < 1 || members > 31 || check_block(alloc, place, block, verifier).is_err() {
                 return false;
             }
             let hash = block_hash(&block.header);
-            check_cert(&place.config, block.header.number, &hash, cert, &Echo).is_ok()
+            check_cert(&place.config, block.header.number, &hash, cert, verifier).is_ok()
         }
     }
 }
@@ -75,7 +81,7 @@ fn act(
         Deed::Prepare => Ok(store.prepare(alloc, quiet, 0, 0, 1, ONE)),
         Deed::Deliver => {
             let cert = first_cert(alloc)?;
-            if !is_next(alloc, store.ledger().place(), &block, &cert) {
+            if !is_next(alloc, store.ledger().place(), &block, &cert, &Echo) {
                 return Err(Fail::from("a block that comes next"));
             }
             Ok(store.deliver(alloc, quiet, block, cert, &Echo))

@@ -1,5 +1,5 @@
 //! The calls that make a deed durable.
-ghost use Rattle.std.specs.Prelude.{◌≡◌, ℕ, ◌≤◌, [], ◌∷◌, ◌++◌, IsTrue, OnOk, None};
+ghost use Rattle.std.specs.Prelude.{◌≡◌, ℕ, ◌≤◌, [], ◌∷◌, ◌++◌, IsTrue, OnOk, OnErr, None};
 ghost use Rattle.ord_types.specs.Grammar.{HasBlockSpelling, IsDigest, IsNumber};
 ghost use Rattle.ord_types.specs.declared.values.Proof.TheVariants.{Bft};
 ghost use Rattle.gate_log.specs.Disk.{now};
@@ -59,7 +59,7 @@ impl Store {
 
         ensures kept { IsTrue (D.tells disk.old) → OnOk result (IsKept self.new (now (D.moments disk.new))) }
         ensures added { (deed : SomeDeed) → IsStoredAs deed entry.now → OnOk result (held_of self.new ≡ with_deed deed (held_of self.old)) }
-        ensures config { config_of self.new ≡ config_of self.old }
+        ensures ledger { self.new.ledger ≡ self.old.ledger }
         ensures any_moment { (deed : SomeDeed) (accepts : SomeAccepts) → IsStoredAs deed entry.now → IsTrue (D.tells disk.old)
             → IsChain accepts (config_of self.old) (held_of self.old).blocks
             → Went (Within accepts (config_of self.old) (deed ∷ []) (held_of self.old)) (D.moments disk.old) (D.moments disk.new) }
@@ -93,7 +93,7 @@ impl Store {
 
         ensures kept { IsTrue (D.tells disk.old) → OnOk result (IsKept self.new (now (D.moments disk.new))) }
         ensures added { (id : ℕ) → OnOk result (held_of self.new ≡ with_deed (Accepting id config view number block) (held_of self.old)) }
-        ensures config { config_of self.new ≡ config_of self.old }
+        ensures ledger { self.new.ledger ≡ self.old.ledger }
 
         // A crash at any moment of the call opens to what was held with this deed or without. No other file changes.
         ensures any_moment { (id : ℕ) (accepts : SomeAccepts) → IsTrue (D.tells disk.old) → IsChain accepts (config_of self.old) (held_of self.old).blocks
@@ -130,7 +130,7 @@ impl Store {
 
         ensures kept { IsTrue (D.tells disk.old) → OnOk result (IsKept self.new (now (D.moments disk.new))) }
         ensures added { (id : ℕ) → OnOk result (held_of self.new ≡ with_deed (Preparing id config view number digest) (held_of self.old)) }
-        ensures config { config_of self.new ≡ config_of self.old }
+        ensures ledger { self.new.ledger ≡ self.old.ledger }
         ensures any_moment { (id : ℕ) (accepts : SomeAccepts) → IsTrue (D.tells disk.old) → IsChain accepts (config_of self.old) (held_of self.old).blocks
             → Went (Within accepts (config_of self.old) (Preparing id config view number digest ∷ []) (held_of self.old)) (D.moments disk.old) (D.moments disk.new) }
         ensures others { IsTrue (D.tells disk.old) → Went (OthersStay (now (D.moments disk.old))) (D.moments disk.old) (D.moments disk.new) }
@@ -164,6 +164,8 @@ impl Store {
         ensures kept { IsTrue (D.tells disk.old) → OnOk result (IsKept self.new (now (D.moments disk.new))) }
         ensures added { (id : ℕ) → OnOk result (held_of self.new ≡ with_deed (Delivering id block cert) (held_of self.old)) }
         ensures config { config_of self.new ≡ config_of self.old }
+        ensures log { self.new.wal ≡ self.old.wal }
+        ensures same { OnErr result ((held_of self.new).blocks ≡ (held_of self.old).blocks) }
         ensures chain { OnOk result (IsChain (V.accepts verifier.now) (config_of self.old) (held_of self.old).blocks
             → IsChain (V.accepts verifier.now) (config_of self.old) (held_of self.new).blocks) }
 
