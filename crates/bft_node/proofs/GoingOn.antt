@@ -21,12 +21,14 @@ use Rattle.block_ledger.proofs.Placing.{begins_at_first, moves_by_one}
 use Rattle.node_model.specs.Acts.{View}
 use Rattle.node_model.specs.Answers.{at_place, fresh, raised}
 use Rattle.node_model.specs.Cores.{Core, next_place as place_behind}
-use Rattle.node_model.specs.Deeds.{Deed, Accepts, Prepares, Delivers, core_does}
-use Rattle.node_model.specs.Restarts.{Returned, core_reopens, found_in}
-use Rattle.bft_node.specs.Held.{Held, with_deed}
+use Rattle.node_model.specs.Deeds.{Deed, Accepts, Prepares, Delivers, core_did, core_does, deeds_of}
+use Rattle.node_model.specs.Restarts.{Returned, core_reopens, found_in, returned_returns}
+use Rattle.node_model.proofs.DeedLemmas.{deeds_leave}
+use Rattle.bft_node.specs.Held.{Held, with_deed, with_deeds}
 use Rattle.bft_node.specs.Returning.{core_at, view_at}
-use Rattle.bft_node.specs.Standing.{BeginsStanding, DeedsKeepStanding, IsBacked, IsDeedOf, IsThere, NothingAhead, OpensAsModel, Stands, first_held}
+use Rattle.bft_node.specs.Standing.{BeginsStanding, DeedsKeepStanding, IsBacked, IsDeedOf, IsThere, NothingAhead, OpensAsModel, Stands, StepsKeepStanding, first_held}
 use Rattle.bft_node.proofs.Standings.{accepted_ahead, accepted_backed, accepted_found, found_accepted, lefts, nothing_backed, nothing_found, parts, prepared_ahead, prepared_backed, prepared_found, viewed}
+use Rattle.bft_node.proofs.StepDeeds.{steps_have_deeds}
 
 module _ (c : Config) (me : ℕ) (held : Held) (core : Core) (stands : Stands c me held core) where
   stood : Place
@@ -199,3 +201,23 @@ begins_standing c me =
 
 pub opens_as_model : OpensAsModel
 opens_as_model c me held r stands = ap (λ (k : Core). let found : Returned = record { core = k; found = found_in k.place k.view } in found) (sym stands.finds)
+
+-- AFTER A STEP
+
+stands_same : (c : Config) (me : ℕ) (held : Held) (one two : Core) → core_reopens one ≡ core_reopens two → Stands c me held one → Stands c me held two
+stands_same c me held one two is stands =
+    let config : one.place.config.number ≡ two.place.config.number = ap (λ (k : Core). k.place.config.number) is in
+    let height : one.place.height ≡ two.place.height = ap (λ (k : Core). k.place.height) is in
+    let view : one.view.view ≡ two.view.view = ap (λ (k : Core). k.view.view) is in
+    record {
+      finds = sym is ∙ stands.finds;
+      ahead = subst (λ n. NothingAhead n two.place.height held.records) config (subst (λ n. NothingAhead one.place.config.number n held.records) height stands.ahead);
+      backed = subst (λ n. IsBacked n two.place.height two.view.view held.records) config
+          (subst (λ n. IsBacked one.place.config.number n two.view.view held.records) height
+          (subst (λ n. IsBacked one.place.config.number one.place.height n held.records) view stands.backed));
+    }
+
+pub steps_keep_standing : StepsKeepStanding
+steps_keep_standing c me held keys r event stands =
+    let deeds : List Deed = deeds_of returned_returns keys r event in
+    stands_same c me (with_deeds deeds held) (core_did deeds r.core) _ (deeds_leave keys r event) (deeds_stand c me held r.core deeds stands (steps_have_deeds keys r event))

@@ -8,8 +8,9 @@ use Rattle.bft_wal.specs.Fold.{is_accepted, tally_of, view_accepted}
 use Rattle.bft_wal.specs.declared.record.WalRecord.{WalRecord}
 use Rattle.block_ledger.specs.Chains.{genesis_entry}
 use Rattle.node_model.specs.Cores.{Core, core_on}
-use Rattle.node_model.specs.Deeds.{Deed, Accepts, Prepares, Delivers, core_did, core_does}
-use Rattle.node_model.specs.Restarts.{Returned, core_reopens, returned_returns}
+use Rattle.node_model.specs.Deeds.{Deed, Accepts, Prepares, Delivers, core_did, core_does, deeds_of}
+use Rattle.node_model.specs.Restarts.{Returned, core_reopens, returned_returns, step}
+use Rattle.node_model.specs.Steps.{Event, Keys}
 use Rattle.bft_node.specs.Held.{Held, with_deeds}
 use Rattle.bft_node.specs.Returning.{opened}
 
@@ -51,13 +52,25 @@ AreDeedsOf core (deed ∷ deeds) = IsDeedOf core deed × AreDeedsOf (core_does d
 abbrev pub first_held : Config → Held
 first_held c = record { blocks = genesis_entry c ∷ []; records = [] }
 
+-- it stands so
 abbrev pub BeginsStanding : Type 0
 BeginsStanding = (c : Config) (me : ℕ) → Stands c me (first_held c) (core_on c me)
 
+-- a node that stands so does so after its deeds, with what is held with them
 abbrev pub DeedsKeepStanding : Type 0
 DeedsKeepStanding =
     (c : Config) (me : ℕ) (held : Held) (core : Core) (deeds : List Deed) → Stands c me held core → AreDeedsOf core deeds
     → Stands c me (with_deeds deeds held) (core_did deeds core)
+
+-- each deed of a step is one of a node that stands where it is done
+abbrev pub StepsHaveDeeds : Type 0
+StepsHaveDeeds = (keys : Keys) (r : Returned) (event : Event) → AreDeedsOf r.core (deeds_of returned_returns keys r event)
+
+-- so a node whose deeds are held stands so after each step
+abbrev pub StepsKeepStanding : Type 0
+StepsKeepStanding =
+    (c : Config) (me : ℕ) (held : Held) (keys : Keys) (r : Returned) (event : Event) → Stands c me held r.core
+    → Stands c me (with_deeds (deeds_of returned_returns keys r event) held) (step returned_returns keys r event).state.core
 
 -- an opening is that of the model
 abbrev pub OpensAsModel : Type 0

@@ -46,10 +46,11 @@ OthersStay before state = (file : ℕ) → file ≢ 0 → file ≢ 2 → state f
 abbrev pub IsStoredAs : Deed → WalRecord → Type 0
 IsStoredAs deed entry = (held : Held) → with_deed deed held ≡ record held { records = held.records ++ entry ∷ [] }
 
--- the length that a record or its file would get, where it is too great, and that of the ledger's file with an entry
+-- the length that a record or its file would get, where it is too great
 abbrev pub log_limit : Store → WalRecord → Option ℕ
 log_limit store entry = too_long store.wal.log.gate (length (record_text entry))
 
+-- the same of the ledger's file with an entry
 abbrev pub ledger_limit : Store → Entry → Option ℕ
 ledger_limit store e =
     if nat_lt (2 ^ 62) (end_of store.ledger + 5 + length (entry_text e)) then Some (end_of store.ledger + 5 + length (entry_text e)) else None

@@ -1,11 +1,13 @@
 ghost use Rattle.bft_node.specs.Laws.{KeptStoreOpens, KeptStoreStays, RunsAreWithin, RunsGoOn};
-ghost use Rattle.bft_node.specs.Standing.{BeginsStanding, DeedsKeepStanding, OpensAsModel};
+ghost use Rattle.bft_node.specs.Standing.{BeginsStanding, DeedsKeepStanding, OpensAsModel, StepsHaveDeeds, StepsKeepStanding};
 
 /// A node whose deeds are held finds at an opening what it had, but for the vote messages that it kept: so it does on the
-/// genesis block, and after each deed of a node that stands so. A law about the definitions; it does nothing.
+/// genesis block, after each deed of a node that stands so, and after each step. A law about the definitions; it does nothing.
 pub fn deeds_are_found()
     ensures first { BeginsStanding }
     ensures deeds { DeedsKeepStanding }
+    ensures done { StepsHaveDeeds }
+    ensures steps { StepsKeepStanding }
     ensures model { OpensAsModel }
 {}
 

@@ -1,4 +1,8 @@
-ghost use Rattle.std.specs.Prelude.{◌≡◌, IsTrue, None};
+ghost use Rattle.std.specs.Prelude.{◌≡◌, ◌≤◌, true, false, length, None};
+ghost use Rattle.ord_types.specs.Hashes.{block_hash as block_hash_of};
+ghost use Rattle.ord_types.specs.Members.{is_raft};
+ghost use Rattle.signer_edge.specs.Certificates.{is_good_cert};
+ghost use Rattle.chan_config.specs.Blocks.{is_next_at};
 ghost use Rattle.ord_types.specs.declared.values.Proof.TheVariants.{Bft};
 ghost use Rattle.block_ledger.specs.Chains.{IsSomeGenesis};
 ghost use Rattle.block_ledger.specs.Judging.{next_refusal};
@@ -9,7 +13,7 @@ use crate::{OpenFault, Store, StoreFault};
 use bft_wire::Prepare;
 use chan_config::check_block;
 use gate_log::{Disk, Image};
-use ord_types::{Block, Cert, Kind, Place, block_hash};
+use ord_types::{Block, Cert, Config, Kind, Place, block_hash};
 use signer_edge::{Verifier, check_cert};
 use std::alloc::Global;
 use std::test::Fail;
@@ -23,6 +27,32 @@ enum Deed {
     Deliver,
 }
 
+// Whether it is a BFT configuration whose members can be counted.
+fn is_bft(config: &Config) -> bool
+    ensures { result ≡ true → (1 ≤ length config.now.members) × (length config.now.members ≤ 31) × (is_raft config.now ≡ false) }
+{
+    let members = config.members.len();
+    match config.kind {
+        Kind::Raft => false,
+        Kind::Bft => members >= 1 && members <= 31,
+    }
+}
+
+fn may_come<V: Verifier>(alloc: Global, place: &Place, block: &Block, verifier: &V) -> bool
+    ensures { result ≡ is_next_at place.now.last place.now.height place.now.config block.now }
+{
+    check_block(alloc, place, block, verifier).is_ok()
+}
+
+fn is_good<V: Verifier>(config: &Config, block: &Block, cert: &Cert, verifier: &V) -> bool
+    requires some { 1 ≤ length config.now.members }
+    requires few { length config.now.members ≤ 31 }
+    ensures { result ≡ is_good_cert (V.accepts verifier.now) config.now block.now.header.number (block_hash_of block.now) cert.now }
+{
+    let hash = block_hash(&block.header);
+    check_cert(config, block.header.number, &hash, cert, verifier).is_ok()
+}
+
 // Whether the block with its certificate may come next.
 fn is_next<V: Verifier>(
     alloc: Global,
@@ -31,24 +61,19 @@ fn is_next<V: Verifier>(
     cert: &Cert,
     verifier: &V,
 ) -> bool
-    ensures { IsTrue result → next_refusal (V.accepts verifier.now) place.now (block.now, Bft cert.now) ≡ None }
+    ensures { result ≡ true → next_refusal (V.accepts verifier.now) place.now (block.now, Bft cert.now) ≡ None }
 {
-    let members = place.config.members.len();
-    match place.config.kind {
-        Kind::Raft => false,
-        Kind::Bft => {
-            if members < 1 || members > 31 || check_block(alloc, place, block, verifier).is_err() {
-                return false;
-            }
-            let hash = block_hash(&block.header);
-            check_cert(&place.config, block.header.number, &hash, cert, verifier).is_ok()
-        }
+    if !is_bft(&place.config) {
+        return false;
     }
+    let next = may_come(alloc, place, block, verifier);
+    let good = is_good(&place.config, block, cert, verifier);
+    if next { good } else { false }
 }
 
 // Whether a view can stand at the place, at the start of a configuration.
 fn is_start(place: &Place) -> bool
-    ensures { IsTrue result → IsPlace place.now }
+    ensures { result ≡ true → IsPlace place.now }
 {
     let members = place.config.members.len();
     members >= 1
