@@ -1,0 +1,9 @@
+mod Folds
+mod GoingOn
+mod Nexts
+mod Opened
+mod Resumed
+mod Running
+mod Standings
+mod Stands
+mod StepDeeds
