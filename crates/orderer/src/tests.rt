@@ -201,7 +201,7 @@ fn endings(rt: HostRuntime) -> Result<(), Fail> {
             b"2 malformed at 6\n".as_slice(),
         ),
         (
-            b"flush\nstop 1 keep\n",
+            b"flush\njoin 1\n",
             17,
             b"1 refused no world\n2 not built\n",
         ),

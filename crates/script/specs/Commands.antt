@@ -3,7 +3,9 @@ use Rattle.std.specs.Prelude.{ℕ, ◌≤◌, ◌<◌, ◌^◌, ◌-◌, List, l
 use Rattle.std.specs.List.{AllByRecursion}
 use Rattle.std.specs.List.Sorted.{IsStrictlyIncreasing}
 use Rattle.script.specs.declared.command.Command.{Command}
-use Rattle.script.specs.declared.command.Command.TheVariants.{Genesis, Submit, Raw, Tick, Deliver, Flush, Show, Propose, Vote, Lie, Seal}
+use Rattle.script.specs.declared.command.Command.TheVariants.{Genesis, Submit, Raw, Tick, Deliver, Flush, Show, Propose, Vote, Lie, Seal, Stop, StopAt, Start}
+use Rattle.script.specs.declared.command.Image.{Image}
+use Rattle.script.specs.declared.command.Image.TheVariants.{Keep, Undo, Fill}
 use Rattle.script.specs.declared.command.Range.{Range}
 
 pub record IsId (id : ℕ) : Type 0 where
@@ -82,6 +84,25 @@ pub record IsSeal (id : ℕ) (bytes : List ℕ) : Type 0 where
   pub id_below : id ≤ 2 ^ 32 - 1
   pub are_bytes : AreBytes bytes
 
+-- what a fill writes is a byte
+abbrev pub IsImage : Image → Type 0
+IsImage Keep = Unit {0}
+IsImage Undo = Unit {0}
+IsImage (Fill byte) = byte < 256
+
+pub record IsStop (node : ℕ) (image : Image) : Type 0 where
+  pub node_id : IsId node
+  pub is_image : IsImage image
+
+pub record IsStopAt (node call : ℕ) (image : Image) : Type 0 where
+  pub node_id : IsId node
+  pub some : 1 ≤ call
+  pub few : call ≤ 1000000
+  pub is_image : IsImage image
+
+pub record IsStart (node : ℕ) : Type 0 where
+  pub node_id : IsId node
+
 -- a command that a line may mean
 abbrev pub IsWellFormed : Command → Type 0
 IsWellFormed (Genesis members byzantine) = IsGenesis members byzantine
@@ -95,3 +116,6 @@ IsWellFormed (Propose from to view client serial payload) = IsPropose from to vi
 IsWellFormed (Vote from to kind view entry) = IsVote from to view entry
 IsWellFormed (Lie from to bytes) = IsLie from to bytes
 IsWellFormed (Seal id bytes) = IsSeal id bytes
+IsWellFormed (Stop node image) = IsStop node image
+IsWellFormed (StopAt node call image) = IsStopAt node call image
+IsWellFormed (Start node) = IsStart node

@@ -3,6 +3,8 @@ use Rattle.std.specs.Prelude.{ℕ, ◌++◌, ◌+◌, ◌-◌, ◌*◌, ◌^◌,
 use Rattle.std.specs.List.{slice_split, starts_with}
 use Rattle.std.specs.Str.{bytes_eq}
 use Rattle.script.specs.declared.command.Range.{Range}
+use Rattle.script.specs.declared.command.Image.{Image}
+use Rattle.script.specs.declared.command.Image.TheVariants.{Keep, Undo, Fill}
 use Rattle.script.specs.declared.command.VoteKind.{VoteKind}
 use Rattle.script.specs.declared.command.VoteKind.TheVariants.{Prepare, Commit}
 
@@ -31,6 +33,10 @@ id_of text = not_zero (number_of (2 ^ 32 - 1) text)
 -- a count of ticks: 1 to 10,000
 abbrev pub ticks_of : List ℕ → Option ℕ
 ticks_of text = not_zero (number_of 10000 text)
+
+-- the place of a device call: 1 to 1,000,000
+abbrev pub device_call_of : List ℕ → Option ℕ
+device_call_of text = not_zero (number_of 1000000 text)
 
 -- a hex digit in lower case
 abbrev pub nibble : ℕ → Option ℕ
@@ -88,6 +94,20 @@ byzantine_of text = if starts_with nat_eq text (codes "byz=") then ids_of (drop 
 -- `prepare` or `commit`
 unfoldable pub vote_kind_of : List ℕ → Option VoteKind
 vote_kind_of text = if bytes_eq text (codes "prepare") then Some Prepare else (if bytes_eq text (codes "commit") then Some Commit else None)
+
+-- the byte that two hex digits spell
+abbrev pub byte_of : List ℕ → Option ℕ
+byte_of [] = None
+byte_of (high ∷ []) = None
+byte_of (high ∷ low ∷ []) = pair_of (nibble high) (nibble low)
+byte_of (high ∷ low ∷ other ∷ more) = None
+
+-- `keep`, `drop` or `fill=HH`
+unfoldable pub image_of : List ℕ → Option Image
+image_of text =
+    if bytes_eq text (codes "keep") then Some Keep
+    else (if bytes_eq text (codes "drop") then Some Undo
+    else (if starts_with nat_eq text (codes "fill=") then option_map (λ b. Fill b) (byte_of (drop 5 text)) else None))
 
 -- the number of an entry, a block or a view: below 2^62
 abbrev pub entry_of : List ℕ → Option ℕ

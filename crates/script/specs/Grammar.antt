@@ -2,13 +2,13 @@
 use Rattle.std.specs.Prelude.{ℕ, ◌-◌, ◌+◌, ◌^◌, ◌==◌, List, [], ◌∷◌, length, if◌then◌else◌, Result, Ok, Err, codes, Option, Some, None}
 use Rattle.std.specs.Str.{bytes_eq}
 use Rattle.script.specs.declared.command.Command.{Command}
-use Rattle.script.specs.declared.command.Command.TheVariants.{Genesis, Submit, Raw, Tick, Deliver, Flush, Show, Propose, Vote, Lie, Seal}
+use Rattle.script.specs.declared.command.Command.TheVariants.{Genesis, Submit, Raw, Tick, Deliver, Flush, Show, Propose, Vote, Lie, Seal, Stop as StopNode, StopAt, Start}
 use Rattle.script.specs.declared.command.Stop.{Stop}
 use Rattle.script.specs.declared.command.Stop.TheVariants.{Malformed, NotBuilt}
 use Rattle.script.specs.declared.command.Meaning.{Meaning}
 use Rattle.script.specs.declared.command.Meaning.TheVariants.{Nothing, Means, Wrong}
 use Rattle.script.specs.Words.{Word, words}
-use Rattle.script.specs.Fields.{number_of, id_of, ticks_of, hex_of, payload_of, ids_of, given_ids_of, byzantine_of, vote_kind_of, entry_of, ranges_of}
+use Rattle.script.specs.Fields.{number_of, id_of, ticks_of, hex_of, payload_of, ids_of, given_ids_of, byzantine_of, vote_kind_of, device_call_of, image_of, entry_of, ranges_of}
 use Rattle.script.specs.Reading.{◌>>=◌, field, field_or, no_more}
 use Rattle.script.specs.Later.{is_later}
 
@@ -123,6 +123,38 @@ byzantine_line_of past word more =
     else (if bytes_eq word.text (codes "seal") then seal_line past more
     else Err (Malformed word.place))))
 
+-- `stop NODE MODE`
+unfoldable pub stop_line : ℕ → List Word → Result Command Stop
+stop_line past w = do
+  node ← field id_of past w
+  image ← field image_of past node.1
+  none ← no_more image.1
+  Ok (StopNode node.0 image.0)
+
+-- `stop-at NODE K MODE`
+unfoldable pub stop_at_line : ℕ → List Word → Result Command Stop
+stop_at_line past w = do
+  node ← field id_of past w
+  call ← field device_call_of past node.1
+  image ← field image_of past call.1
+  none ← no_more image.1
+  Ok (StopAt node.0 call.0 image.0)
+
+-- `start NODE`
+unfoldable pub start_line : ℕ → List Word → Result Command Stop
+start_line past w = do
+  node ← field id_of past w
+  none ← no_more node.1
+  Ok (Start node.0)
+
+-- a stop or a start of a node, or else a command of a Byzantine member, by its first word and those behind it
+unfoldable pub stopping_line_of : ℕ → Word → List Word → Result Command Stop
+stopping_line_of past word more =
+    if bytes_eq word.text (codes "stop") then stop_line past more
+    else (if bytes_eq word.text (codes "stop-at") then stop_at_line past more
+    else (if bytes_eq word.text (codes "start") then start_line past more
+    else byzantine_line_of past word more))
+
 -- a command by its first word and those behind it
 unfoldable pub line_of : ℕ → Word → List Word → Result Command Stop
 line_of past word more =
@@ -133,7 +165,7 @@ line_of past word more =
     else (if bytes_eq word.text (codes "deliver") then deliver_line past more
     else (if bytes_eq word.text (codes "flush") then flush_line more
     else (if bytes_eq word.text (codes "show") then show_line past more
-    else byzantine_line_of past word more))))))
+    else stopping_line_of past word more))))))
 
 -- a command by its words; whether they belong to a later part is looked at first
 abbrev pub command_of : ℕ → List Word → Result Command Stop

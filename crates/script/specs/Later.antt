@@ -7,8 +7,7 @@ use Rattle.script.specs.Words.{Word}
 -- a first word of a later part
 unfoldable pub is_later_word : List ℕ → Bool
 is_later_word text =
-    bytes_eq text (codes "byz-change") || bytes_eq text (codes "byz-report") || bytes_eq text (codes "stop") || bytes_eq text (codes "stop-at")
-    || bytes_eq text (codes "start") || bytes_eq text (codes "config") || bytes_eq text (codes "join")
+    bytes_eq text (codes "byz-change") || bytes_eq text (codes "byz-report") || bytes_eq text (codes "config") || bytes_eq text (codes "join")
 
 -- a word begins like an option of `genesis` of a later part
 unfoldable pub is_later_option : List ℕ → Bool

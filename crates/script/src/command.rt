@@ -17,6 +17,18 @@ pub enum VoteKind {
     Commit,
 }
 
+/// What the disk of a stopped node holds of what was written since the last successful sync: the
+/// crash images of a device that loses power.
+#[derive(Clone, Copy, Debug, PartialEq, Eq)]
+pub enum Image {
+    /// What was written: `keep`.
+    Keep,
+    /// What stood before: `drop`.
+    Undo,
+    /// This byte at every place that was written: `fill=HH`, in two hex digits.
+    Fill(u8),
+}
+
 /// What a line asks for.
 #[derive(Drop)]
 pub enum Command {
@@ -84,6 +96,22 @@ pub enum Command {
     Seal {
         id: u32,
         bytes: Bytes,
+    },
+    /// The node stops now, and its disk is left as this image.
+    Stop {
+        node: u32,
+        image: Image,
+    },
+    /// The node stops at this device call of its disk, counted from 1 and from here on: 1 to
+    /// 1,000,000. The disk is left as this image then.
+    StopAt {
+        node: u32,
+        call: u32,
+        image: Image,
+    },
+    /// A stopped node opens on what its disk was left with.
+    Start {
+        node: u32,
     },
 }
 

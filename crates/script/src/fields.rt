@@ -1,8 +1,8 @@
 ghost use Rattle.std.specs.Prelude.{◌≡◌, ◌≤◌, ◌<◌, ◌^◌, ◌+◌, ◌-◌, ◌*◌, ◌&&◌, ◌==◌, ◌∷◌, nat_le, nat_lt, if◌then◌else◌, Some, None, IfOk, IfSome, option_copied, length};
 ghost use Rattle.std.specs.List.{slice_split};
-ghost use Rattle.script.specs.Fields.{number_of, digits_from, nibble, pair_of, pairs_of, hex_of, payload_of, parts_left, ids_of, byzantine_of, vote_kind_of, id_of, ticks_of, entry_of, in_order, range_of, ranges_of};
+ghost use Rattle.script.specs.Fields.{number_of, digits_from, nibble, pair_of, pairs_of, hex_of, payload_of, parts_left, ids_of, byzantine_of, vote_kind_of, id_of, ticks_of, device_call_of, image_of, entry_of, in_order, range_of, ranges_of};
 
-use crate::command::{Range, VoteKind};
+use crate::command::{Image, Range, VoteKind};
 use memchr::memchr;
 use ord_types::{Bytes, List, NoMemory};
 use std::alloc::Global;
@@ -58,6 +58,14 @@ pub fn ticks(text: &[u8]) -> Option<u32>
     ensures { result ≡ ticks_of text.now }
 {
     let n = number(text, 10_000)?;
+    if n == 0 { None } else { Some(n as u32) }
+}
+
+/// The place of a device call: 1 to 1,000,000.
+pub fn device_call(text: &[u8]) -> Option<u32>
+    ensures { result ≡ device_call_of text.now }
+{
+    let n = number(text, 1_000_000)?;
     if n == 0 { None } else { Some(n as u32) }
 }
 
@@ -176,6 +184,26 @@ pub fn vote_kind(text: &[u8]) -> Option<VoteKind>
         return Some(VoteKind::Commit);
     }
     None
+}
+
+/// `keep`, `drop` or `fill=HH`, where HH is a byte in two hex digits.
+#[tactic(auto, unfolding(crate::specs::Fields::image_of))]
+pub fn image(text: &[u8]) -> Option<Image>
+    ensures { result ≡ image_of text.now }
+{
+    if text == b"keep".as_slice() {
+        return Some(Image::Keep);
+    }
+    if text == b"drop".as_slice() {
+        return Some(Image::Undo);
+    }
+    match text.strip_prefix(b"fill=") {
+        Some([high, low]) => {
+            let byte = pair(*high, *low)?;
+            Some(Image::Fill(byte))
+        }
+        _ => None,
+    }
 }
 
 /// The number of an entry, a block or a view: below 2^62.

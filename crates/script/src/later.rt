@@ -13,9 +13,6 @@ fn is_later_word(word: &[u8]) -> bool
 {
     word == b"byz-change".as_slice()
         || word == b"byz-report".as_slice()
-        || word == b"stop".as_slice()
-        || word == b"stop-at".as_slice()
-        || word == b"start".as_slice()
         || word == b"config".as_slice()
         || word == b"join".as_slice()
 }

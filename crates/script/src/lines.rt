@@ -3,9 +3,9 @@ ghost use Rattle.script.specs.Words.{Word, words, words_left};
 ghost use Rattle.script.specs.Reading.{Gives, Reads};
 ghost use Rattle.script.specs.Grammar.{genesis_line, submit_line, raw_line, tick_line, deliver_line, flush_line, show_line, line_of, command_of, meaning};
 
-use crate::byzantine::byzantine_line;
 use crate::command::{Command, Halt, Meaning, Stop, malformed};
 use crate::later::is_later;
+use crate::stopping::stopping_line;
 use crate::words::Words;
 use ord_types::NoMemory;
 use std::alloc::Global;
@@ -113,7 +113,7 @@ fn line_of(alloc: Global, place: usize, word: &[u8], words: &mut Words<'_>) -> R
     if word == b"show".as_slice() {
         return show_line(words);
     }
-    byzantine_line(alloc, place, word, words)
+    stopping_line(alloc, place, word, words)
 }
 
 fn command(alloc: Global, line: &[u8]) -> Result<Command, Halt>

@@ -1,12 +1,14 @@
 ghost use Rattle.std.specs.Prelude.{◌≡◌, ◌≤◌, ◌+◌, ◌^◌, ◌-◌, ◌∷◌, [], IsNone, IfNone, IfSome, IfOk, IfErr, None, length, nat_lt};
 ghost use Rattle.script.specs.declared.command.Stop.TheVariants.{Malformed};
 ghost use Rattle.script.specs.Words.{words_left};
-ghost use Rattle.script.specs.Fields.{number_of, id_of, ticks_of, hex_of, payload_of, ids_of, given_ids_of, byzantine_of, vote_kind_of, entry_of, ranges_of};
+ghost use Rattle.script.specs.Fields.{number_of, id_of, ticks_of, hex_of, payload_of, ids_of, given_ids_of, byzantine_of, vote_kind_of, device_call_of, image_of, entry_of, ranges_of};
 ghost use Rattle.script.specs.Grammar.{same_as};
 ghost use Rattle.script.specs.Reading.{Reads, Gives, field, field_or, no_more};
 
-use crate::command::{Halt, Range, VoteKind, malformed};
-use crate::fields::{byzantine, entry, hex, id, ids, number, payload, ranges, ticks, vote_kind};
+use crate::command::{Halt, Image, Range, VoteKind, malformed};
+use crate::fields::{
+    byzantine, device_call, entry, hex, id, ids, image, number, payload, ranges, ticks, vote_kind,
+};
 use memchr::memchr;
 use ord_types::{Bytes, List};
 use std::alloc::Global;
@@ -180,6 +182,30 @@ impl<'a> Words<'a> {
         let (place, word) = self.word()?;
         match vote_kind(word) {
             Some(kind) => Ok(kind),
+            None => Err(malformed(place)),
+        }
+    }
+
+    /// The place of a device call.
+    pub fn device_call(&mut self) -> Result<u32, Halt>
+        ensures line { self.new.line.now ≡ self.old.line.now }
+        ensures reads { Reads result (words_left self.new.line.now self.new.from) (field device_call_of (length self.old.line.now + 1) (words_left self.old.line.now self.old.from)) }
+    {
+        let (place, word) = self.word()?;
+        match device_call(word) {
+            Some(call) => Ok(call),
+            None => Err(malformed(place)),
+        }
+    }
+
+    /// What a stop leaves of a disk.
+    pub fn image(&mut self) -> Result<Image, Halt>
+        ensures line { self.new.line.now ≡ self.old.line.now }
+        ensures reads { Reads result (words_left self.new.line.now self.new.from) (field image_of (length self.old.line.now + 1) (words_left self.old.line.now self.old.from)) }
+    {
+        let (place, word) = self.word()?;
+        match image(word) {
+            Some(image) => Ok(image),
             None => Err(malformed(place)),
         }
     }

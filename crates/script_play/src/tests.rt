@@ -93,7 +93,7 @@ fn scripts(rt: HostRuntime) -> Result<(), Fail> {
             3,
         ),
         (
-            b"#\nstop 1 keep\nflush",
+            b"#\njoin 1\nflush",
             b"2 not built\n",
             Ending::LaterLine(2),
             17,

@@ -11,6 +11,7 @@ use Rattle.script_play.specs.declared.ending.Ending.TheVariants.{Done}
 use Rattle.script_play.specs.Turns.{Turn}
 use Rattle.script_play.specs.Runs.{Run, line_turn, limit_turn, max_line, max_lines, run, said, script_run, went}
 use Rattle.script_play.specs.Worlds.{worlds, worlds_after}
+use Rattle.world_model.specs.Worlds.{Outcome}
 use Rattle.world_model.specs.Turns.{closing_of, turn_of}
 use Rattle.world_model.specs.Cores.{core_setting}
 use Rattle.world_model.specs.Histories.{past_setting, run_of, worlds_of}
@@ -77,9 +78,10 @@ worlds_same see Good turn core_turn same (line ∷ more) v number good =
     (line_same see Good turn core_turn same v number line good).next (λ next. worlds_same see Good turn core_turn same more next (number + 1)))
 
 -- the text of a script is the same in the model's world and in the world that is updated in place, and its run ends the same
-pub runs_agree : (script : List ℕ) → script_run (turn_of core_setting) (closing_of core_setting) None script ≡ run_of [] script
-runs_agree script = sym (run_same seen_if_any NoneAheadIfAny (turn_of past_setting) (turn_of core_setting) (closing_of past_setting) (closing_of core_setting) turn_of_same closing_same (lines script) None 1 tt)
+pub runs_agree : (outcomes : List Outcome) (script : List ℕ) → script_run (turn_of core_setting outcomes) (closing_of core_setting) None script ≡ run_of outcomes script
+runs_agree outcomes script =
+    sym (run_same seen_if_any NoneAheadIfAny (turn_of past_setting outcomes) (turn_of core_setting outcomes) (closing_of past_setting) (closing_of core_setting) (turn_of_same outcomes) closing_same (lines script) None 1 tt)
 
 -- and so are its worlds
-pub worlds_agree : (script : List ℕ) → worlds (turn_of core_setting) (lines script) None 1 ≡ map seen_if_any (worlds_of [] script)
-worlds_agree script = sym (worlds_same seen_if_any NoneAheadIfAny (turn_of past_setting) (turn_of core_setting) turn_of_same (lines script) None 1 tt)
+pub worlds_agree : (outcomes : List Outcome) (script : List ℕ) → worlds (turn_of core_setting outcomes) (lines script) None 1 ≡ map seen_if_any (worlds_of outcomes script)
+worlds_agree outcomes script = sym (worlds_same seen_if_any NoneAheadIfAny (turn_of past_setting outcomes) (turn_of core_setting outcomes) (turn_of_same outcomes) (lines script) None 1 tt)

@@ -1,5 +1,5 @@
 -- Lemmas on a world whose nodes are computed from their pasts, and the same world with states that are updated in place.
-use Rattle.std.proofs.Common.{◌≡◌, ℕ, zero, suc, ◌+◌, ◌-◌, Bool, true, false, cond, not, ◌&&◌, eqb, ltb, List, [], ◌∷◌, ◌++◌, map, filter, length, position, slice_get, ap, ap₂, ◌∙◌, refl, subst, Option, Some, None, is_some, option_map, Result, Ok, Err, codes}
+use Rattle.std.proofs.Common.{◌≡◌, ℕ, zero, suc, ◌+◌, ◌-◌, Bool, true, false, cond, not, ◌&&◌, eqb, ltb, List, [], ◌∷◌, ◌++◌, map, filter, length, position, slice_get, ap, ap₂, ◌∙◌, refl, sym, subst, take, drop, Option, Some, None, is_some, option_map, Result, Ok, Err, codes}
 use Rattle.std.specs.List.{prefix_len}
 use Rattle.std.specs.List.{AllByRecursion, flat_map}
 use Rattle.script.specs.declared.command.Command.{Command}
@@ -19,18 +19,20 @@ use Rattle.bft_wire.specs.Spelling.{message_text}
 use Rattle.safety_model.specs.Blocks.{Block, Config, Request}
 use Rattle.safety_model.specs.Facts.{History}
 use Rattle.node_model.specs.Steps.{Event, Making}
-use Rattle.node_model.specs.Cores.{Core, core_ways}
-use Rattle.node_model.specs.Keeping.{PastNode, past_place, past_ways}
+use Rattle.node_model.specs.Cores.{core_opens}
+use Rattle.node_model.specs.Deeds.{Deed, deeds_of}
+use Rattle.node_model.specs.Keeping.{PastNode, past_opens, past_place, past_ways, place_of, view_of}
+use Rattle.node_model.specs.Restarts.{Returned, past_returns, returned_returns, step}
 use Rattle.node_model.specs.Letters.{PrePrepare}
-use Rattle.node_model.specs.Seen.{core_making, NothingAhead}
-use Rattle.node_model.proofs.AheadLemmas.{ahead_opens}
-use Rattle.node_model.proofs.PastLemmas.{seen_opens}
-use Rattle.node_model.proofs.StepLemmas.{step_same}
+use Rattle.node_model.specs.Seen.{NothingAhead, returned_making, returned_of_past}
+use Rattle.node_model.proofs.AheadLemmas.{ahead_opens, ahead_reopens}
+use Rattle.node_model.proofs.RestartLemmas.{reopens_same, returns_same}
+use Rattle.node_model.proofs.StopLemmas.{deeds_same, stopped_ahead, stopped_same}
 use Rattle.world_model.specs.Pools.{answer}
-use Rattle.world_model.specs.Worlds.{World, Node, Entry, entry, is_waiting, is_named, keys_of, letter_from, making, marked, node_after, node_at, tick_of, with_node, world_after}
-use Rattle.world_model.specs.Texts.{fact_text, closing_line, genesis_text, tick_text, deliver_text, flush_text, answer_text, lied_text, refused_text, seal_text, show_text, sent_text}
+use Rattle.world_model.specs.Worlds.{World, Node, Entry, entry, is_waiting, is_named, Never, Outcome, Reached, keys_of, letter_from, made_of, making, marked, node_after, node_at, node_started, node_stopped, running, running_at, tick_of, with_node, world_after, world_stopped, world_stopped_in}
+use Rattle.world_model.specs.Texts.{fact_text, genesis_text, tick_text, deliver_text, flush_text, answer_text, lied_text, refused_text, seal_text, show_text, sent_text, start_text, stop_at_text, stopped_text}
 use Rattle.world_model.specs.Liars.{as_liar, as_signer, commit_for, is_raft_if_any, lie_turn, longer, longest, prepare_for, proposal_of, propose_on, propose_turn, proposed_in, seal_turn, sends, sig_at, statement_for, vote_for, vote_if, vote_turn, with_sent, with_signed}
-use Rattle.world_model.specs.Turns.{absence, at_found, at_node, closing_of, closing_of_member, counted, deliver_turn, deliveries, delivery, delivery_to, event_turn, first_config, first_node, first_world, flush_turn, flushes, genesis_turn, goes_on, most_entries, most_flushed, ordinary, refuses, says, show_turn, shows, some_world, submit_turn, submitted, then_on, tick_at, ticks, turn_in, turn_of, within_limit}
+use Rattle.world_model.specs.Turns.{absence, at_found, at_node, at_stopped, event_by, event_goes, first_outcome, is_running, start_turn, stop_at_turn, stop_turn, unless_stopped, closing_of, closing_of_member, counted, deliver_turn, deliveries, delivery, delivery_to, event_turn, first_config, first_node, first_world, flush_turn, flushes, genesis_turn, goes_on, most_entries, most_flushed, ordinary, refuses, says, show_turn, shows, some_world, submit_turn, submitted, then_on, tick_at, ticks, turn_in, turn_of, within_limit}
 use Rattle.world_model.specs.Cores.{core_setting}
 use Rattle.world_model.specs.Histories.{past_setting}
 use Rattle.world_model.specs.Seen.{seen, seen_if_any, seen_node}
@@ -69,7 +71,7 @@ abbrev pub Past : Type 0
 Past = World PastNode History
 
 abbrev pub InPlace : Type 0
-InPlace = World Core (Unit {0})
+InPlace = World Returned (Unit {0})
 
 abbrev pub IsAhead : Node PastNode → Type 0
 IsAhead node = NothingAhead node.state
@@ -102,11 +104,11 @@ with_ahead new [] one all = tt
 with_ahead new (node ∷ nodes) one all =
     either_ahead (eqb node.id new.id) (new ∷ nodes) (node ∷ with_node new nodes) (one, all.1) (all.0, with_ahead new nodes one all.1)
 
-abbrev SameNode : Option (Node PastNode) → Option (Node Core) → Type 0
+abbrev SameNode : Option (Node PastNode) → Option (Node Returned) → Type 0
 SameNode None o = o ≡ None
 SameNode (Some node) o = (o ≡ Some (seen_node node)) × IsAhead node
 
-found_if : (b : Bool) (node : Node PastNode) (o : Option (Node PastNode)) (p : Option (Node Core)) → IsAhead node → SameNode o p → SameNode (cond b (Some node) o) (cond b (Some (seen_node node)) p)
+found_if : (b : Bool) (node : Node PastNode) (o : Option (Node PastNode)) (p : Option (Node Returned)) → IsAhead node → SameNode o p → SameNode (cond b (Some node) o) (cond b (Some (seen_node node)) p)
 found_if true node o p one same = (refl, one)
 found_if false node o p one same = same
 
@@ -126,53 +128,111 @@ within_same number blocks w ahead = limit_if (ltb most_entries (length w.network
 
 made_same : (number : ℕ) (w : Past) (node : Node PastNode) (m : Making PastNode) → NoneAhead w → NothingAhead m.state
     → Same (within_limit number (flat_map (fact_text number) m.facts) (world_after past_setting w node m))
-    (within_limit number (flat_map (fact_text number) m.facts) (world_after core_setting (seen w) (seen_node node) (core_making m)))
+    (within_limit number (flat_map (fact_text number) m.facts) (world_after core_setting (seen w) (seen_node node) (returned_making m)))
 made_same number w node m all ahead =
     let blocks = flat_map (fact_text number) m.facts in
     let after = world_after past_setting w node m in
-    subst (λ nodes. Same (within_limit number blocks after) (within_limit number blocks (record (world_after core_setting (seen w) (seen_node node) (core_making m)) { nodes = nodes })))
+    subst (λ nodes. Same (within_limit number blocks after) (within_limit number blocks (record (world_after core_setting (seen w) (seen_node node) (returned_making m)) { nodes = nodes })))
     (with_seen (node_after node m) w.nodes) (within_same number blocks after (with_ahead (node_after node m) w.nodes ahead all))
+
+goes_same : (number : ℕ) (w : Past) (node : Node PastNode) (event : Event) → NoneAhead w → IsAhead node
+    → Same (event_goes past_setting number w node event) (event_goes core_setting number (seen w) (seen_node node) event)
+goes_same number w node event all ahead =
+    let m = making past_setting w node event in
+    let one = returns_same (keys_of w.seals node.id) node.state event ahead in
+    subst (λ k. Same (within_limit number (flat_map (fact_text number) m.facts) (world_after past_setting w node m))
+    (within_limit number (flat_map (fact_text number) k.facts) (world_after core_setting (seen w) (seen_node node) k))) one.same (made_same number w node m all one.good)
+
+-- a stop after deeds that a restart finds alike
+stop_same : (text : List ℕ) (w : Past) (node : Node PastNode) (deeds : List Deed) (signed : List (List ℕ)) → NoneAhead w
+    → returned_of_past (past_setting.stops deeds node.state) ≡ core_setting.stops deeds (returned_of_past node.state) → NothingAhead (past_setting.stops deeds node.state)
+    → Same (says text (world_stopped past_setting w node deeds signed)) (says text (world_stopped core_setting (seen w) (seen_node node) deeds signed))
+stop_same text w node deeds signed all is ahead =
+    let stopped = node_stopped past_setting node deeds in
+    let after = world_stopped past_setting w node deeds signed in
+    let path : map seen_node (with_node stopped w.nodes) ≡ with_node (node_stopped core_setting (seen_node node) deeds) (map seen_node w.nodes) =
+    with_seen stopped w.nodes ∙ ap (λ state. with_node (record (node_stopped core_setting (seen_node node) deeds) { state = state }) (map seen_node w.nodes)) is in
+    subst (λ nodes. Same (says text after) (says text (record (world_stopped core_setting (seen w) (seen_node node) deeds signed) { nodes = nodes }))) path
+    (says_same seen NoneAhead text after (with_ahead stopped w.nodes ahead all))
+
+stopped_in_same : (number : ℕ) (w : Past) (node : Node PastNode) (event : Event) (kept signed : ℕ) → NoneAhead w → IsAhead node
+    → Same (says (stopped_text number node.id) (world_stopped_in past_setting w node event kept signed)) (says (stopped_text number node.id) (world_stopped_in core_setting (seen w) (seen_node node) event kept signed))
+stopped_in_same number w node event kept signed all ahead =
+    let keys = keys_of w.seals node.id in
+    let n = node.state in
+    let deeds = deeds_of past_returns keys n event in
+    let made = step past_returns keys n event in
+    let same : deeds ≡ deeds_of returned_returns keys (returned_of_past n) event = deeds_same keys n event ahead in
+    let text = stopped_text number node.id in
+    let past = says text (world_stopped_in past_setting w node event kept signed) in
+    let core = λ (ds : List Deed) (m : Making Returned). says text (world_stopped core_setting (seen w) (seen_node node) (take kept ds) (made_of kept signed m.facts m.signed)) in
+    let found : returned_of_past (past_setting.stops (take kept deeds) n) ≡ core_setting.stops (take kept deeds) (returned_of_past n) =
+    stopped_same keys n event kept ahead ∙ ap (λ (ds : List Deed). core_setting.stops (take kept ds) (returned_of_past n)) (sym same) in
+    subst (λ m. Same past (core (deeds_of returned_returns keys (returned_of_past n) event) m)) (returns_same keys n event ahead).same
+    (subst (λ ds. Same past (core ds (returned_making made))) same
+    (stop_same text w node (take kept deeds) (made_of kept signed made.facts made.signed) all found (ahead_reopens _ (stopped_ahead keys n event kept ahead))))
+
+event_by_same : (number : ℕ) (w : Past) (node : Node PastNode) (event : Event) (outcome : Outcome) → NoneAhead w → IsAhead node
+    → Same (event_by past_setting number w node event outcome) (event_by core_setting number (seen w) (seen_node node) event outcome)
+event_by_same number w node event Never all ahead = goes_same number w node event all ahead
+event_by_same number w node event (Reached zero kept signed) all ahead = stopped_in_same number w node event kept signed all ahead
+event_by_same number w node event (Reached (suc n) kept signed) all ahead = goes_same number w node event all ahead
 
 event_same : (number : ℕ) (w : Past) (node : Node PastNode) (event : Event) → NoneAhead w → IsAhead node
     → Same (event_turn past_setting number w node event) (event_turn core_setting number (seen w) (seen_node node) event)
 unfolding event_turn
-event_same number w node event all ahead =
-    let m = making past_setting w node event in
-    let step = step_same (keys_of w.seals node.id) node.state event ahead in
-    subst (λ k. Same (within_limit number (flat_map (fact_text number) m.facts) (world_after past_setting w node m))
-    (within_limit number (flat_map (fact_text number) k.facts) (world_after core_setting (seen w) (seen_node node) k))) step.same (made_same number w node m all step.ahead)
+event_same number w node event all ahead = event_by_same number w node event node.pending all ahead
+
+-- A NODE THAT RUNS
+
+runs_if : (b : Bool) (node : Node PastNode) → IsAhead node → SameNode (cond b (Some node) None) (cond b (Some (seen_node node)) None)
+runs_if true node ahead = (refl, ahead)
+runs_if false node ahead = refl
+
+running_same : (o : Option (Node PastNode)) (p : Option (Node Returned)) → SameNode o p → SameNode (running o) (running p)
+running_same None p same = rw same refl
+running_same (Some node) p same = rw same.0 (runs_if node.runs node same.1)
+
+running_at_same : (id : ℕ) (nodes : List (Node PastNode)) → AllByRecursion IsAhead nodes → SameNode (running_at id nodes) (running_at id (map seen_node nodes))
+running_at_same id nodes all = running_same (node_at id nodes) (node_at id (map seen_node nodes)) (node_at_same id nodes all)
+
+-- a node is there in both or in neither
+there_same : (o : Option (Node PastNode)) (p : Option (Node Returned)) → SameNode o p → is_some o ≡ is_some p
+there_same None p same = rw same refl
+there_same (Some node) p same = rw same.0 refl
+
+runs_same : (id : ℕ) (w : Past) → NoneAhead w → is_running id w ≡ is_running id (seen w)
+runs_same id w all = there_same (running_at id w.nodes) (running_at id (map seen_node w.nodes)) (running_at_same id w.nodes all)
+
+either_same : (b : Bool) (p q : Turn Past) (r s : Turn InPlace) → Same p r → Same q s → Same (cond b p q) (cond b r s)
+either_same true p q r s one other = one
+either_same false p q r s one other = other
 
 -- TICK
 
-tick_at_same : (number : ℕ) (w : Past) (o : Option (Node PastNode)) (p : Option (Node Core)) → NoneAhead w → SameNode o p → Same (tick_at past_setting number w o) (tick_at core_setting number (seen w) p)
+tick_at_same : (number : ℕ) (w : Past) (o : Option (Node PastNode)) (p : Option (Node Returned)) → NoneAhead w → SameNode o p → Same (tick_at past_setting number w o) (tick_at core_setting number (seen w) p)
 tick_at_same number w None p all same = rw same (says_same seen NoneAhead [] w all)
 tick_at_same number w (Some node) p all same = rw same.0 (event_same number w node (tick_of past_ways node) all same.1)
 
 ticks_same : (number id n : ℕ) (w : Past) → NoneAhead w → Same (ticks past_setting number id n w) (ticks core_setting number id n (seen w))
 unfolding ticks
-ticks_same number id zero w all = says_same seen NoneAhead (tick_text number id) w all
+ticks_same number id zero w all =
+    let text = λ (b : Bool). cond b (tick_text number id) [] in
+    subst (λ b. Same (says (text (is_running id w)) w) (says (text b) (seen w))) (runs_same id w all) (says_same seen NoneAhead (text (is_running id w)) w all)
 ticks_same number id (suc n) w all =
-    goes_on_same seen seen NoneAhead NoneAhead (tick_at past_setting number w (node_at id w.nodes)) (tick_at core_setting number (seen w) (node_at id (map seen_node w.nodes)))
+    goes_on_same seen seen NoneAhead NoneAhead (tick_at past_setting number w (running_at id w.nodes)) (tick_at core_setting number (seen w) (running_at id (map seen_node w.nodes)))
     (λ next. ticks past_setting number id n next) (λ next. ticks core_setting number id n next)
-    (tick_at_same number w (node_at id w.nodes) (node_at id (map seen_node w.nodes)) all (node_at_same id w.nodes all)) (ticks_same number id n)
+    (tick_at_same number w (running_at id w.nodes) (running_at id (map seen_node w.nodes)) all (running_at_same id w.nodes all)) (ticks_same number id n)
 
 -- DELIVER
 
-delivery_to_same : (number k : ℕ) (e : Entry) (w : Past) (o : Option (Node PastNode)) (p : Option (Node Core)) → NoneAhead w → SameNode o p
+delivery_to_same : (number k : ℕ) (e : Entry) (w : Past) (o : Option (Node PastNode)) (p : Option (Node Returned)) → NoneAhead w → SameNode o p
     → Same (delivery_to past_setting number k e w o) (delivery_to core_setting number k e (seen w) p)
 delivery_to_same number k e w None p all same = rw same (says_same seen NoneAhead [] w all)
 delivery_to_same number k e w (Some node) p all same = rw same.0 (event_same number (marked k e w) node (letter_from e) all same.1)
 
 delivery_same : (number k : ℕ) (e : Entry) (w : Past) → NoneAhead w → Same (delivery past_setting number k e w) (delivery core_setting number k e (seen w))
-delivery_same number k e w all = delivery_to_same number k e w (node_at e.to w.nodes) (node_at e.to (map seen_node w.nodes)) all (node_at_same e.to w.nodes all)
-
--- a receiver is there in both or in neither
-there_same : (o : Option (Node PastNode)) (p : Option (Node Core)) → SameNode o p → is_some o ≡ is_some p
-there_same None p same = rw same refl
-there_same (Some node) p same = rw same.0 refl
-
-runs_same : (id : ℕ) (w : Past) → NoneAhead w → is_some (node_at id w.nodes) ≡ is_some (node_at id (map seen_node w.nodes))
-runs_same id w all = there_same (node_at id w.nodes) (node_at id (map seen_node w.nodes)) (node_at_same id w.nodes all)
+delivery_same number k e w all = delivery_to_same number k e w (running_at e.to w.nodes) (running_at e.to (map seen_node w.nodes)) all (running_at_same e.to w.nodes all)
 
 counted_same : (e : Entry) (w : Past) (count : ℕ) → NoneAhead w → counted e w.nodes count ≡ counted e (map seen_node w.nodes) count
 counted_same e w count all = ap (λ b. cond b (count + 1) count) (runs_same e.to w all)
@@ -180,6 +240,15 @@ counted_same e w count all = ap (λ b. cond b (count + 1) count) (runs_same e.to
 -- what follows in one world and in the other
 abbrev SameRest : (ℕ → Past → Turn Past) → (ℕ → InPlace → Turn InPlace) → Type 0
 SameRest rest core_rest = (count : ℕ) (w : Past) → NoneAhead w → Same (rest count w) (core_rest count (seen w))
+
+unless_same : (id : ℕ) (w next : Past) (turn : Turn Past) (core_turn : Turn InPlace) → NoneAhead w → NoneAhead next → Same turn core_turn
+    → Same (unless_stopped id w next turn) (unless_stopped id (seen w) (seen next) core_turn)
+unless_same id w next turn core_turn all more same =
+    let past = λ (b : Bool). cond b (says [] next) turn in
+    let core = λ (b : Bool). cond b (says [] (seen next)) core_turn in
+    let stopped = is_running id w && not (is_running id next) in
+    subst (λ b. Same (past stopped) (core b)) (ap₂ (λ (a b : Bool). a && not b) (runs_same id w all) (runs_same id next more))
+    (either_same stopped (says [] next) turn (says [] (seen next)) core_turn (says_same seen NoneAhead [] next more) same)
 
 entry_same : (k : ℕ) (w : Past) → entry k w ≡ entry k (seen w)
 entry_same zero w = refl
@@ -198,13 +267,16 @@ deliveries_same : (number n k count : ℕ) (w : Past) (rest : ℕ → Past → T
 unfolding deliveries
 deliveries_same number zero k count w rest core_rest all more = more count w all
 deliveries_same number (suc n) k count w rest core_rest all more =
-    let after = λ (sum : ℕ) (next : Past). deliveries past_setting number n (k + 1) sum next rest in
-    let core_after = λ (sum : ℕ) (next : InPlace). deliveries core_setting number n (k + 1) sum next core_rest in
-    let past = λ (e : Entry). goes_on (delivery past_setting number (k - 1) e w) (after (counted e w.nodes count)) in
-    let core = λ (e : Entry) (sum : ℕ). goes_on (delivery core_setting number (k - 1) e (seen w)) (core_after sum) in
-    let step = λ (e : Entry). goes_on_same seen seen NoneAhead NoneAhead (delivery past_setting number (k - 1) e w) (delivery core_setting number (k - 1) e (seen w)) (after (counted e w.nodes count)) (core_after (counted e w.nodes count)) (delivery_same number (k - 1) e w all) (λ next ahead. deliveries_same number n (k + 1) (counted e w.nodes count) next rest core_rest ahead more) in
+    let after = λ (e : Entry) (sum : ℕ) (next : Past). unless_stopped e.to w next (deliveries past_setting number n (k + 1) sum next rest) in
+    let core_after = λ (e : Entry) (sum : ℕ) (next : InPlace). unless_stopped e.to (seen w) next (deliveries core_setting number n (k + 1) sum next core_rest) in
+    let past = λ (e : Entry). goes_on (delivery past_setting number (k - 1) e w) (after e (counted e w.nodes count)) in
+    let core = λ (e : Entry) (sum : ℕ). goes_on (delivery core_setting number (k - 1) e (seen w)) (core_after e sum) in
+    let then = λ (e : Entry) (next : Past) (ahead : NoneAhead next).
+    unless_same e.to w next (deliveries past_setting number n (k + 1) (counted e w.nodes count) next rest) (deliveries core_setting number n (k + 1) (counted e w.nodes count) (seen next) core_rest) all ahead
+    (deliveries_same number n (k + 1) (counted e w.nodes count) next rest core_rest ahead more) in
+    let one = λ (e : Entry). goes_on_same seen seen NoneAhead NoneAhead (delivery past_setting number (k - 1) e w) (delivery core_setting number (k - 1) e (seen w)) (after e (counted e w.nodes count)) (core_after e (counted e w.nodes count)) (delivery_same number (k - 1) e w all) (then e) in
     entry_taken number w (entry k w) (entry k (seen w)) past (λ e. core e (counted e (map seen_node w.nodes) count)) all (entry_same k w)
-    (λ e. subst (λ (sum : ℕ). Same (past e) (core e sum)) (counted_same e w count all) (step e))
+    (λ e. subst (λ (sum : ℕ). Same (past e) (core e sum)) (counted_same e w count all) (one e))
 
 deliver_same : (number : ℕ) (ranges : List Range) (count : ℕ) (w : Past) → NoneAhead w → Same (deliver_turn past_setting number ranges count w) (deliver_turn core_setting number ranges count (seen w))
 unfolding deliver_turn
@@ -270,10 +342,14 @@ shows_same number w node (Some stored) all = says_same seen NoneAhead (show_text
 
 -- GENESIS
 
+opens_seen : (c : Config) (byzantine : List ℕ) (id : ℕ) → returned_of_past (past_opens c byzantine id) ≡ record { core = core_opens c byzantine id; found = None }
+unfolding place_of view_of genesis_block
+opens_seen c byzantine id = refl
+
 opened_seen : (c : Config) (byzantine ids : List ℕ) → map seen_node (map (first_node past_setting c byzantine) ids) ≡ map (first_node core_setting c byzantine) ids
 opened_seen c byzantine [] = refl
 opened_seen c byzantine (id ∷ ids) =
-    ap₂ (λ s rest. record { id = id; state = s; pool = []; ledger = (genesis_block c, proof_of.Raft) ∷ [] } ∷ rest) (seen_opens c byzantine id) (opened_seen c byzantine ids)
+    ap₂ (λ (s : Returned) (rest : List (Node Returned)). record { id = id; state = s; pool = []; ledger = (genesis_block c, proof_of.Raft) ∷ []; runs = true; pending = Never } ∷ rest) (opens_seen c byzantine id) (opened_seen c byzantine ids)
 
 opened_ahead : (c : Config) (byzantine ids : List ℕ) → AllByRecursion IsAhead (map (first_node past_setting c byzantine) ids)
 opened_ahead c byzantine [] = tt
@@ -282,17 +358,13 @@ opened_ahead c byzantine (id ∷ ids) = (ahead_opens c byzantine id, opened_ahea
 abbrev correct_in : Config → List ℕ → List ℕ
 correct_in c byzantine = filter (λ id. not (is_in id byzantine)) c.members
 
-first_seen : (c : Config) (byzantine : List ℕ) → seen (first_world past_setting c byzantine) ≡ first_world core_setting c byzantine
-first_seen c byzantine = ap (λ nodes. record { config = c; byzantine = byzantine; nodes = nodes; network = []; seals = []; told = tt }) (opened_seen c byzantine (correct_in c byzantine))
+first_seen : (outcomes : List Outcome) (c : Config) (byzantine : List ℕ) → seen (first_world past_setting outcomes c byzantine) ≡ first_world core_setting outcomes c byzantine
+first_seen outcomes c byzantine = ap (λ nodes. record { config = c; byzantine = byzantine; nodes = nodes; network = []; seals = []; told = tt; outcomes = outcomes }) (opened_seen c byzantine (correct_in c byzantine))
 
 -- BYZANTINE MEMBERS
 
 refuses_same : (number : ℕ) (reason : List ℕ) (w : Past) → NoneAhead w → Same (refuses number reason w) (refuses number reason (seen w))
 refuses_same number reason w all = says_same seen NoneAhead (refused_text number reason) w all
-
-either_same : (b : Bool) (p q : Turn Past) (r s : Turn InPlace) → Same p r → Same q s → Same (cond b p q) (cond b r s)
-either_same true p q r s one other = one
-either_same false p q r s one other = other
 
 liar_same : (number : ℕ) (w : Past) (from to : ℕ) (turn : Turn Past) (core_turn : Turn InPlace) → NoneAhead w → Same turn core_turn → Same (as_liar number w from to turn) (as_liar number (seen w) from to core_turn)
 liar_same number w from to turn core_turn all same =
@@ -328,7 +400,7 @@ propose_on_same number w from to v r (Some node) all = sends_same number (codes 
 
 propose_same : (number : ℕ) (w : Past) (from to v : ℕ) (r : Request) → NoneAhead w → Same (propose_turn past_setting number w from to v r) (propose_turn core_setting number (seen w) from to v r)
 propose_same number w from to v r all =
-    subst (λ (o : Option (Node Core)). Same (propose_turn past_setting number w from to v r) (propose_on core_setting number (seen w) from to v r o)) (longest_seen w.nodes)
+    subst (λ (o : Option (Node Returned)). Same (propose_turn past_setting number w from to v r) (propose_on core_setting number (seen w) from to v r o)) (longest_seen w.nodes)
     (propose_on_same number w from to v r (longest w.nodes) all)
 
 vote_for_same : (number : ℕ) (w : Past) (from to : ℕ) (kind : VoteKind) (v : ℕ) (m : PrePrepare) → NoneAhead w → Same (vote_for number w from to kind v m) (vote_for number (seen w) from to kind v m)
@@ -358,14 +430,32 @@ seal_same number w id bytes all = says_same seen NoneAhead (seal_text number (le
 
 -- A COMMAND
 
-at_found_same : (number : ℕ) (w : Past) (id : ℕ) (o : Option (Node PastNode)) (p : Option (Node Core)) (turn : Node PastNode → Turn Past) (core_turn : Node Core → Turn InPlace)
+at_found_same : (number : ℕ) (w : Past) (id : ℕ) (o : Option (Node PastNode)) (p : Option (Node Returned)) (turn : Node PastNode → Turn Past) (core_turn : Node Returned → Turn InPlace)
     → NoneAhead w → SameNode o p → ((node : Node PastNode) → IsAhead node → Same (turn node) (core_turn (seen_node node))) → Same (at_found number w id o turn) (at_found number (seen w) id p core_turn)
 at_found_same number w id None p turn core_turn all same each = rw same (refuses_same number (absence w id) w all)
 at_found_same number w id (Some node) p turn core_turn all same each = rw same.0 (each node same.1)
 
-at_node_same : (number : ℕ) (w : Past) (id : ℕ) (turn : Node PastNode → Turn Past) (core_turn : Node Core → Turn InPlace)
+at_node_same : (number : ℕ) (w : Past) (id : ℕ) (turn : Node PastNode → Turn Past) (core_turn : Node Returned → Turn InPlace)
     → NoneAhead w → ((node : Node PastNode) → IsAhead node → Same (turn node) (core_turn (seen_node node))) → Same (at_node number w id turn) (at_node number (seen w) id core_turn)
-at_node_same number w id turn core_turn all each = at_found_same number w id (node_at id w.nodes) (node_at id (map seen_node w.nodes)) turn core_turn all (node_at_same id w.nodes all) each
+at_node_same number w id turn core_turn all each =
+    at_found_same number w id (node_at id w.nodes) (node_at id (map seen_node w.nodes)) (λ node. cond node.runs (turn node) (refuses number (codes "stopped") w)) (λ node. cond node.runs (core_turn node) (refuses number (codes "stopped") (seen w)))
+    all (node_at_same id w.nodes all)
+    (λ node ahead. either_same node.runs (turn node) (refuses number (codes "stopped") w) (core_turn (seen_node node)) (refuses number (codes "stopped") (seen w)) (each node ahead) (refuses_same number (codes "stopped") w all))
+
+at_stopped_same : (number : ℕ) (w : Past) (id : ℕ) (turn : Node PastNode → Turn Past) (core_turn : Node Returned → Turn InPlace)
+    → NoneAhead w → ((node : Node PastNode) → IsAhead node → Same (turn node) (core_turn (seen_node node))) → Same (at_stopped number w id turn) (at_stopped number (seen w) id core_turn)
+at_stopped_same number w id turn core_turn all each =
+    at_found_same number w id (node_at id w.nodes) (node_at id (map seen_node w.nodes)) (λ node. cond node.runs (refuses number (codes "running") w) (turn node)) (λ node. cond node.runs (refuses number (codes "running") (seen w)) (core_turn node))
+    all (node_at_same id w.nodes all)
+    (λ node ahead. either_same node.runs (refuses number (codes "running") w) (turn node) (refuses number (codes "running") (seen w)) (core_turn (seen_node node)) (refuses_same number (codes "running") w all) (each node ahead))
+
+-- another node in the place of one of its id, which a restart sees alike
+replaced_same : (text : List ℕ) (w : Past) (outcomes : List Outcome) (new : Node PastNode) → NoneAhead w → IsAhead new
+    → Same (says text (record w { nodes = with_node new w.nodes; outcomes = outcomes })) (says text (record (seen w) { nodes = with_node (seen_node new) (map seen_node w.nodes); outcomes = outcomes }))
+replaced_same text w outcomes new all ahead =
+    let after = record w { nodes = with_node new w.nodes; outcomes = outcomes } in
+    subst (λ nodes. Same (says text after) (says text (record (seen w) { nodes = nodes; outcomes = outcomes }))) (with_seen new w.nodes)
+    (says_same seen NoneAhead text after (with_ahead new w.nodes ahead all))
 
 turn_same : (number : ℕ) (w : Past) (command : Command) → NoneAhead w → Same (turn_in past_setting number w command) (turn_in core_setting number (seen w) command)
 turn_same number w (command_of.Genesis members byzantine) all = refuses_same number (codes "second genesis") w all
@@ -384,6 +474,15 @@ turn_same number w (command_of.Tick id count) all =
     all (λ node ahead. ticks_same number id count w all)
 turn_same number w (command_of.Deliver ranges) all = deliver_same number ranges 0 w all
 turn_same number w (command_of.Flush only) all = flush_same number only most_flushed 0 w all
+turn_same number w (command_of.Stop id image) all =
+    at_node_same number w id (λ node. stop_turn past_setting number w node) (λ node. stop_turn core_setting number (seen w) node) all
+    (λ node ahead. stop_same (stopped_text number node.id) w node [] [] all (reopens_same node.state) (ahead_reopens node.state ahead))
+turn_same number w (command_of.StopAt id call image) all =
+    at_node_same number w id (λ node. stop_at_turn number w node) (λ node. stop_at_turn number (seen w) node) all
+    (λ node ahead. replaced_same (stop_at_text number node.id) w (drop 1 w.outcomes) (record node { pending = first_outcome w.outcomes }) all ahead)
+turn_same number w (command_of.Start id) all =
+    at_stopped_same number w id (λ node. start_turn number w node) (λ node. start_turn number (seen w) node) all
+    (λ node ahead. replaced_same (start_text number node.id) w w.outcomes (node_started node) all ahead)
 turn_same number w (command_of.Propose from to view client serial payload) all =
     let r = ordinary client serial payload in
     liar_same number w from to (propose_turn past_setting number w from to view r) (propose_turn core_setting number (seen w) from to view r) all (propose_same number w from to view r all)
@@ -404,41 +503,44 @@ SameIfAny = SameTurn seen_if_any NoneAheadIfAny
 no_world_same : (number : ℕ) → SameIfAny (refuses number (codes "no world") None) (refuses number (codes "no world") None)
 no_world_same number = says_same seen_if_any NoneAheadIfAny (refused_text number (codes "no world")) None tt
 
-genesis_if : (b : Bool) (printed : List ℕ) (ending : Ending) (number : ℕ) (c : Config) (byzantine : List ℕ)
-    → SameIfAny (cond b (record { printed = printed; next = Err ending }) (says (genesis_text number) (Some (first_world past_setting c byzantine))))
-    (cond b (record { printed = printed; next = Err ending }) (says (genesis_text number) (Some (first_world core_setting c byzantine))))
-genesis_if true printed ending number c byzantine = record { printed = refl; next = refl }
-genesis_if false printed ending number c byzantine =
-    let first = first_world past_setting c byzantine in
-    subst (λ w. SameIfAny (says (genesis_text number) (Some first)) (says (genesis_text number) (Some w))) (first_seen c byzantine)
+genesis_if : (b : Bool) (printed : List ℕ) (ending : Ending) (outcomes : List Outcome) (number : ℕ) (c : Config) (byzantine : List ℕ)
+    → SameIfAny (cond b (record { printed = printed; next = Err ending }) (says (genesis_text number) (Some (first_world past_setting outcomes c byzantine))))
+    (cond b (record { printed = printed; next = Err ending }) (says (genesis_text number) (Some (first_world core_setting outcomes c byzantine))))
+genesis_if true printed ending outcomes number c byzantine = record { printed = refl; next = refl }
+genesis_if false printed ending outcomes number c byzantine =
+    let first = first_world past_setting outcomes c byzantine in
+    subst (λ w. SameIfAny (says (genesis_text number) (Some first)) (says (genesis_text number) (Some w))) (first_seen outcomes c byzantine)
     (says_same seen_if_any NoneAheadIfAny (genesis_text number) (Some first) (opened_ahead c byzantine (correct_in c byzantine)))
 
-genesis_same : (number : ℕ) (members byzantine : List ℕ) → SameIfAny (genesis_turn past_setting number members byzantine) (genesis_turn core_setting number members byzantine)
-genesis_same number members byzantine =
-    genesis_if (ltb (fault_bound (length members)) (how_many_in byzantine members)) _ _ number (first_config members) byzantine
+genesis_same : (outcomes : List Outcome) (number : ℕ) (members byzantine : List ℕ) → SameIfAny (genesis_turn past_setting outcomes number members byzantine) (genesis_turn core_setting outcomes number members byzantine)
+genesis_same outcomes number members byzantine =
+    genesis_if (ltb (fault_bound (length members)) (how_many_in byzantine members)) _ _ outcomes number (first_config members) byzantine
 
 some_same : (w : Past) → NoneAhead w → SameIfAny (some_world w) (some_world (seen w))
 some_same w all = says_same seen_if_any NoneAheadIfAny [] (Some w) all
 
-pub turn_of_same : (o : Option Past) (number : ℕ) (command : Command) → NoneAheadIfAny o → SameIfAny (turn_of past_setting o number command) (turn_of core_setting (seen_if_any o) number command)
+pub turn_of_same : (outcomes : List Outcome) (o : Option Past) (number : ℕ) (command : Command) → NoneAheadIfAny o → SameIfAny (turn_of past_setting outcomes o number command) (turn_of core_setting outcomes (seen_if_any o) number command)
 unfolding turn_of
-turn_of_same None number (command_of.Genesis members byzantine) all = genesis_same number members byzantine
-turn_of_same None number (command_of.Submit id client serial payload) all = no_world_same number
-turn_of_same None number (command_of.Raw id bytes) all = no_world_same number
-turn_of_same None number (command_of.Show id block) all = no_world_same number
-turn_of_same None number (command_of.Tick id count) all = no_world_same number
-turn_of_same None number (command_of.Deliver ranges) all = no_world_same number
-turn_of_same None number (command_of.Flush only) all = no_world_same number
-turn_of_same None number (command_of.Propose from to view client serial payload) all = no_world_same number
-turn_of_same None number (command_of.Vote from to kind view k) all = no_world_same number
-turn_of_same None number (command_of.Lie from to bytes) all = no_world_same number
-turn_of_same None number (command_of.Seal id bytes) all = no_world_same number
-turn_of_same (Some w) number command all =
+turn_of_same outcomes None number (command_of.Genesis members byzantine) all = genesis_same outcomes number members byzantine
+turn_of_same outcomes None number (command_of.Submit id client serial payload) all = no_world_same number
+turn_of_same outcomes None number (command_of.Raw id bytes) all = no_world_same number
+turn_of_same outcomes None number (command_of.Show id block) all = no_world_same number
+turn_of_same outcomes None number (command_of.Tick id count) all = no_world_same number
+turn_of_same outcomes None number (command_of.Deliver ranges) all = no_world_same number
+turn_of_same outcomes None number (command_of.Flush only) all = no_world_same number
+turn_of_same outcomes None number (command_of.Propose from to view client serial payload) all = no_world_same number
+turn_of_same outcomes None number (command_of.Vote from to kind view k) all = no_world_same number
+turn_of_same outcomes None number (command_of.Lie from to bytes) all = no_world_same number
+turn_of_same outcomes None number (command_of.Seal id bytes) all = no_world_same number
+turn_of_same outcomes None number (command_of.Stop id image) all = no_world_same number
+turn_of_same outcomes None number (command_of.StopAt id call image) all = no_world_same number
+turn_of_same outcomes None number (command_of.Start id) all = no_world_same number
+turn_of_same outcomes (Some w) number command all =
     goes_on_same seen seen_if_any NoneAhead NoneAheadIfAny (turn_in past_setting number w command) (turn_in core_setting number (seen w) command) some_world some_world (turn_same number w command all) some_same
 
 -- THE CLOSING LINES
 
-line_same : (id : ℕ) (o : Option (Node PastNode)) (p : Option (Node Core)) → SameNode o p → closing_of_member past_setting id o ≡ closing_of_member core_setting id p
+line_same : (id : ℕ) (o : Option (Node PastNode)) (p : Option (Node Returned)) → SameNode o p → closing_of_member past_setting id o ≡ closing_of_member core_setting id p
 line_same id None p same = rw same refl
 line_same id (Some node) p same = rw same.0 refl
 

@@ -1,24 +1,30 @@
 -- The world of the model: its nodes are computed from all that happened at them, and it keeps the list of all facts.
-use Rattle.std.specs.Prelude.{ℕ, List, [], ◌++◌, reverse, Option, None}
+use Rattle.std.specs.Prelude.{ℕ, List, [], ◌∷◌, ◌++◌, reverse, Option, None}
 use Rattle.line_flow.specs.Lines.{lines}
 use Rattle.safety_model.specs.Facts.{History}
-use Rattle.node_model.specs.Keeping.{PastNode, past_ways}
+use Rattle.node_model.specs.Deeds.{past_did}
+use Rattle.node_model.specs.Keeping.{PastNode}
+use Rattle.node_model.specs.Past.{Opened}
+use Rattle.node_model.specs.Restarts.{past_returns}
 use Rattle.script_play.specs.Runs.{Run, script_run}
 use Rattle.script_play.specs.Worlds as played
-use Rattle.world_model.specs.Worlds.{Setting, World}
+use Rattle.world_model.specs.Worlds.{Outcome, Setting, World}
 use Rattle.world_model.specs.Turns.{turn_of, closing_of}
 
 -- the history is the list of all facts, the newest first
 abbrev pub past_setting : Setting PastNode History
-past_setting = record { ways = past_ways; silent = []; hears = λ facts history. reverse facts ++ history }
-
--- what the stops of a script's `stop-at` lines left: none of them is built yet, so there is none
-pub data Outcome : Type 0 where
+past_setting =
+    record {
+      returns = past_returns;
+      stops = λ deeds n. record n { past = Opened ∷ past_did deeds n.past };
+      silent = [];
+      hears = λ facts history. reverse facts ++ history;
+    }
 
 -- the run of a script: its text, and how it ends, a function of its bytes and of the outcomes
 abbrev pub run_of : List Outcome → List ℕ → Run
-run_of outcomes script = script_run (turn_of past_setting) (closing_of past_setting) None script
+run_of outcomes script = script_run (turn_of past_setting outcomes) (closing_of past_setting) None script
 
 -- the worlds of a script: the one before each line, and the last one
 abbrev pub worlds_of : List Outcome → List ℕ → List (Option (World PastNode History))
-worlds_of outcomes script = played.worlds (turn_of past_setting) (lines script) None 1
+worlds_of outcomes script = played.worlds (turn_of past_setting outcomes) (lines script) None 1

@@ -1,5 +1,5 @@
 -- The lines of Byzantine members: what they send, and what they sign.
-use Rattle.std.specs.Prelude.{ℕ, zero, suc, Bool, true, false, ◌&&◌, ◌==◌, nat_lt, not, List, [], ◌∷◌, ◌++◌, codes, length, Option, Some, None, option_and_then, if◌then◌else◌}
+use Rattle.std.specs.Prelude.{ℕ, Bool, true, false, ◌&&◌, ◌==◌, nat_lt, not, List, [], ◌∷◌, ◌++◌, codes, length, Option, Some, None, option_and_then, if◌then◌else◌}
 use Rattle.std.specs.Int.{w64, to_be_bytes}
 use Rattle.ord_types.specs.Hashes.{block_hash}
 use Rattle.ord_types.specs.Members.{is_in}
@@ -63,7 +63,7 @@ proposal_of place v r =
 abbrev pub propose_on : {S T : Type 0} → Setting S T → ℕ → World S T → ℕ → ℕ → ℕ → Request → Option (Node S) → Turn (World S T)
 propose_on setting number w from to v r None = refuses number (codes "no core") w
 propose_on setting number w from to v r (Some node) =
-    sends number (codes "byz-propose") w from to (message_text (proposal_of (setting.ways.place node.state) v r))
+    sends number (codes "byz-propose") w from to (message_text (proposal_of (setting.returns.ways.place node.state) v r))
 
 abbrev pub propose_turn : {S T : Type 0} → Setting S T → ℕ → World S T → ℕ → ℕ → ℕ → Request → Turn (World S T)
 propose_turn setting number w from to v r = propose_on setting number w from to v r (longest w.nodes)

@@ -7,3 +7,4 @@ pub mod Seen
 pub mod Texts
 pub mod Turns
 pub mod Worlds
+pub mod Stages

@@ -1,5 +1,5 @@
 -- Turns that say something, one after the other, and the network's limit.
-use Rattle.std.specs.Prelude.{ℕ, nat_lt, List, [], ◌++◌, length, Result, Ok, Err, if◌then◌else◌}
+use Rattle.std.specs.Prelude.{ℕ, nat_lt, List, ◌++◌, length, Result, Ok, Err, if◌then◌else◌}
 use Rattle.ord_types.specs.declared.values.ReqKind.TheVariants.{Ordinary}
 use Rattle.safety_model.specs.Blocks.{Request}
 use Rattle.script_play.specs.declared.ending.Ending.{Ending}

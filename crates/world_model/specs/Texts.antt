@@ -32,6 +32,16 @@ refused_text number reason = decimal number ++ codes " refused " ++ reason ++ co
 unfoldable pub limit_text : ℕ → ℕ → List ℕ
 limit_text number limit = decimal number ++ codes " limit " ++ decimal limit ++ codes "\n"
 
+-- a node is stopped, by a line or by its disk
+unfoldable pub stopped_text : ℕ → ℕ → List ℕ
+stopped_text number node = decimal number ++ codes " stopped " ++ decimal node ++ codes "\n"
+
+unfoldable pub stop_at_text : ℕ → ℕ → List ℕ
+stop_at_text number node = decimal number ++ codes " stop-at " ++ decimal node ++ codes "\n"
+
+unfoldable pub start_text : ℕ → ℕ → List ℕ
+start_text number node = decimal number ++ codes " start " ++ decimal node ++ codes "\n"
+
 -- the line of what a Byzantine member sent: its first word, and the number of the entry
 unfoldable pub lied_text : ℕ → List ℕ → ℕ → List ℕ
 lied_text number word sent = decimal number ++ codes " " ++ word ++ codes " " ++ decimal sent ++ codes "\n"
@@ -123,6 +133,10 @@ fact_text number _ = []
 unfoldable pub node_text : ℕ → ℕ → ℕ → ℕ → ℕ → List ℕ
 node_text id height config view left =
     codes "node " ++ decimal id ++ codes " height " ++ decimal height ++ codes " config " ++ decimal config ++ codes " view " ++ decimal view ++ codes " left " ++ decimal left ++ codes "\n"
+
+-- the closing line of a stopped node
+unfoldable pub closed_text : ℕ → List ℕ
+closed_text id = codes "node " ++ decimal id ++ codes " stopped\n"
 
 -- the closing line of a Byzantine member
 unfoldable pub byzantine_text : ℕ → List ℕ

@@ -9,10 +9,11 @@ ghost use Rattle.world_model.specs.Turns.{turn_of, closing_of};
 ghost use Rattle.world_model.specs.Cores.{core_setting};
 ghost use Rattle.world_model.specs.Histories.{run_of, worlds_of};
 ghost use Rattle.world_model.specs.Seen.{seen_if_any};
+ghost use Rattle.world_model.specs.Worlds.{Outcome};
 
 /// A script prints the same text, and its run ends the same, whether the nodes' states are updated in place or computed from
 /// all that happened at them; and so each world that it goes through is the same.
 pub fn worlds_agree()
-    ensures text { (script : List ℕ) → script_run (turn_of core_setting) (closing_of core_setting) None script ≡ run_of [] script }
-    ensures worlds { (script : List ℕ) → worlds (turn_of core_setting) (lines script) None 1 ≡ map seen_if_any (worlds_of [] script) }
+    ensures text { (outcomes : List Outcome) (script : List ℕ) → script_run (turn_of core_setting outcomes) (closing_of core_setting) None script ≡ run_of outcomes script }
+    ensures worlds { (outcomes : List Outcome) (script : List ℕ) → worlds (turn_of core_setting outcomes) (lines script) None 1 ≡ map seen_if_any (worlds_of outcomes script) }
 {}

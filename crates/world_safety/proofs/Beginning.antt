@@ -14,7 +14,7 @@ use Rattle.script.specs.declared.command.Command.TheVariants.{Genesis}
 use Rattle.node_model.specs.Keeping.{PastNode, setup_on}
 use Rattle.world_model.specs.Histories.{past_setting}
 use Rattle.world_model.specs.Turns.{first_config, first_node, first_world}
-use Rattle.world_model.specs.Worlds.{Node, World}
+use Rattle.world_model.specs.Worlds.{Node, Outcome, World}
 use Rattle.world_safety.specs.Safe.{ids_of}
 use Rattle.world_safety.proofs.Ids.{all_members}
 use Rattle.world_safety.proofs.Lists.{all_map, all_mapped}
@@ -27,9 +27,9 @@ same_ids : (c : Config) (byzantine ids : List ℕ) → ids_of (map (first_node p
 same_ids c byzantine [] = refl
 same_ids c byzantine (id ∷ ids) = ap (λ more. id ∷ more) (same_ids c byzantine ids)
 
-pub first_good : (members byzantine : List ℕ) → AreIds members → how_many_in byzantine members ≤ fault_bound (length members)
-    → GoodWorld (setup_on (first_config members) byzantine) (first_world past_setting (first_config members) byzantine)
-first_good members byzantine are few =
+pub first_good : (outcomes : List Outcome) (members byzantine : List ℕ) → AreIds members → how_many_in byzantine members ≤ fault_bound (length members)
+    → GoodWorld (setup_on (first_config members) byzantine) (first_world past_setting outcomes (first_config members) byzantine)
+first_good outcomes members byzantine are few =
     let c = first_config members in
     let su = setup_on c byzantine in
     let node : ℕ → Node PastNode = first_node past_setting c byzantine in
@@ -59,10 +59,10 @@ IsGoodIn None = Unit {0}
 IsGoodIn (Some w) = IsGood w
 
 -- where no more members are Byzantine than the bound allows
-pub begun_good : (number : ℕ) (members byzantine : List ℕ) → AreIds members → AllByRecursion IsGoodIn (worlds_in_turn None number (Genesis members byzantine))
-begun_good number members byzantine are = go (nat_lt (fault_bound (length members)) (how_many_in byzantine members)) refl
+pub begun_good : (outcomes : List Outcome) (number : ℕ) (members byzantine : List ℕ) → AreIds members → AllByRecursion IsGoodIn (worlds_in_turn outcomes None number (Genesis members byzantine))
+begun_good outcomes number members byzantine are = go (nat_lt (fault_bound (length members)) (how_many_in byzantine members)) refl
   where
     go : (t : Bool) → nat_lt (fault_bound (length members)) (how_many_in byzantine members) ≡ t
-        → AllByRecursion IsGoodIn (cond t [] (Some (first_world past_setting (first_config members) byzantine) ∷ []))
+        → AllByRecursion IsGoodIn (cond t [] (Some (first_world past_setting outcomes (first_config members) byzantine) ∷ []))
     go true is = tt
-    go false is = (record { setup = setup_on (first_config members) byzantine; good = first_good members byzantine are (ltb-false (fault_bound (length members)) (how_many_in byzantine members) is) }, tt)
+    go false is = (record { setup = setup_on (first_config members) byzantine; good = first_good outcomes members byzantine are (ltb-false (fault_bound (length members)) (how_many_in byzantine members) is) }, tt)

@@ -1,5 +1,5 @@
 -- Blocks, certificates and messages that have a spelling.
-use Rattle.std.proofs.Common.{ℕ, ◌≤◌}
+use Rattle.std.proofs.Common.{ℕ, ◌≤◌, Option, Some, None}
 use Rattle.ord_types.specs.Grammar.{HasBlockSpelling, HasCertSpelling, HasIdsSpelling, IsNumber}
 use Rattle.ord_types.specs.declared.values.Proof.TheVariants as proof_of
 use Rattle.safety_model.specs.Blocks.{Block}
@@ -41,3 +41,13 @@ FactFits (Left i e v) = Unit {0}
 FactFits (Reported i e v r) = Unit {0}
 FactFits (Entered i e v x choice) = Unit {0}
 FactFits (Delivered i b proof) = DeliveredFits b proof
+
+-- a fact, and the block that an acceptance names, which fits
+abbrev pub ActFits : Fact → Option Block → Type 0
+ActFits (Accepted i e v s d) (Some b) = FitsAt s b
+ActFits (Accepted i e v s d) None = Unit {0}
+ActFits (Prepared i e v s d) o = Unit {0}
+ActFits (Left i e v) o = Unit {0}
+ActFits (Reported i e v r) o = Unit {0}
+ActFits (Entered i e v x choice) o = Unit {0}
+ActFits (Delivered i b proof) o = Unit {0}

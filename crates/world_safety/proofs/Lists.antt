@@ -1,8 +1,8 @@
 -- What holds of each element of a list, in lists that are made of others.
-use Rattle.std.proofs.Common.{◌≡◌, Bool, true, false, List, [], ◌∷◌, ◌++◌, map, reverse, cond, refl, sym, subst}
+use Rattle.std.proofs.Common.{◌≡◌, ℕ, take, drop, Bool, true, false, List, [], ◌∷◌, ◌++◌, map, reverse, cond, refl, sym, subst}
 use Rattle.std.specs.Prelude.{filter}
 use Rattle.std.specs.List.{AllByRecursion, flat_map}
-use Rattle.std.proofs.lemmas.List.{reverse-append}
+use Rattle.std.proofs.lemmas.List.{reverse-append, take-append-drop}
 use Rattle.world_safety.specs.Telling.{last_of}
 
 pub all_map : {X : Type 0} (P Q : X → Type 0) → ((x : X) → P x → Q x) → (xs : List X) → AllByRecursion P xs → AllByRecursion Q xs
@@ -50,3 +50,11 @@ all_parts P (x ∷ xs) ys all = let parts = all_parts P xs ys all.1 in ((all.0, 
 pub all_last : {X : Type 0} (P : X → Type 0) (x : X) (xs : List X) → P x → AllByRecursion P xs → P (last_of x xs)
 all_last P x [] here all = here
 all_last P x (y ∷ xs) here all = all_last P y xs all.0 all.1
+
+pub all_unmapped : {X Y : Type 0} (P : Y → Type 0) (f : X → Y) (xs : List X) → AllByRecursion P (map f xs) → AllByRecursion (λ x. P (f x)) xs
+all_unmapped P f [] all = tt
+all_unmapped P f (x ∷ xs) all = (all.0, all_unmapped P f xs all.1)
+
+-- in a front of a list
+pub all_taken : {X : Type 0} (P : X → Type 0) (n : ℕ) (xs : List X) → AllByRecursion P xs → AllByRecursion P (take n xs)
+all_taken P n xs all = (all_parts P (take n xs) (drop n xs) (subst (AllByRecursion P) (sym (take-append-drop n xs)) all)).0

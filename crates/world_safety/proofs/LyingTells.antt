@@ -23,7 +23,7 @@ use Rattle.world_model.specs.Texts.{lied_text, limit_text}
 use Rattle.world_model.specs.Worlds.{Entry, Node, entry}
 use Rattle.signer_edge.specs.declared.seals.Seal.{Seal}
 use Rattle.world_safety.specs.Safe.{signs_anything}
-use Rattle.world_safety.specs.Telling.{IsLastSent, NoBlock, NoCore, NoEntry, NotByzantine, RaftMessage, UnknownNode, route_in}
+use Rattle.world_safety.specs.Telling.{IsLastSent, NoBlock, NoCore, NoEntry, NotByzantine, RaftMessage, UnknownNode, Went, route_in}
 use Rattle.world_safety.specs.Telling as it
 use Rattle.world_safety.specs.Within.{PastWorld, after_lie, after_propose, after_vote, after_vote_if, after_vote_on, where_liar, where_signer}
 use Rattle.world_safety.proofs.Tells.{Tells, in_world, last_pushed, length_pushed, replies}
@@ -54,8 +54,8 @@ module _ (number : ℕ) (meant : Meaning) where
       go : (t : Bool)
           → Tells (in_world meant) number before (after ∷ [])
           (goes_on (cond t (record { printed = [] ++ limit_text number most_entries; next = Err (Limit most_entries) }) (says [] after)) (λ sent. says (lied_text number word (length sent.network)) sent))
-      go true = record { events = [] ∷ []; reply = it.Limited most_entries; histories = rw same refl; so = tt; printed = refl; next = refl }
-      go false = record { events = [] ∷ []; reply = it.Lied word (length after.network); histories = rw same refl; so = is_last; printed = refl; next = refl }
+      go true = record { events = Went [] ∷ []; reply = it.Limited most_entries; histories = rw same refl; stops = (tt, tt); so = tt; printed = refl; next = refl }
+      go false = record { events = Went [] ∷ []; reply = it.Lied word (length after.network); histories = rw same refl; stops = (tt, tt); so = is_last; printed = refl; next = refl }
 
   -- a line is refused, or its sender is Byzantine
   liar_tells : (w : PastWorld) (from to : ℕ) (within : List PastWorld) (turn : Turn PastWorld) → (IsByzantine w from → Tells (in_world meant) number w within turn) → Tells (in_world meant) number w (where_liar w from to within) (as_liar number w from to turn)
@@ -105,7 +105,7 @@ module _ (number : ℕ) (meant : Meaning) where
 
       sealed : signs_anything w.config.members w.byzantine id ≡ true → Tells (in_world meant) number w (with_signed w id bytes ∷ []) (seal_turn number w id bytes)
       sealed any =
-          record { events = [] ∷ []; reply = it.Sealed (length w.seals); histories = refl; so = record { last = seal; at = last_pushed w.seals seal; count = length_push w.seals seal; asked = asked; by = any }; printed = refl; next = refl }
+          record { events = Went [] ∷ []; reply = it.Sealed (length w.seals); histories = refl; stops = (tt, tt); so = record { last = seal; at = last_pushed w.seals seal; count = length_push w.seals seal; asked = asked; by = any }; printed = refl; next = refl }
 
       go : (t : Bool) → (id == 0) ≡ t → Tells (in_world meant) number w (cond t (with_signed w id bytes ∷ []) (where_liar w id id (with_signed w id bytes ∷ []))) (cond t (seal_turn number w id bytes) (as_liar number w id id (seal_turn number w id bytes)))
       go true is = sealed (or_left _ _ is)

@@ -24,9 +24,9 @@ use Rattle.bft_wire.specs.declared.message.Message.{Message}
 use Rattle.bft_wire.specs.declared.message.Message.TheVariants as message_of
 use Rattle.node_model.specs.Leading.{Place}
 use Rattle.node_model.specs.Acts.{View, acceptance_due, delivery_due, preparation_due, proposed}
-use Rattle.node_model.specs.Past.{Past, Came, Did, Signed, facts_of}
+use Rattle.node_model.specs.Past.{Past, Did, Signed, facts_of}
 use Rattle.node_model.specs.Keeping.{PastNode, past_ways, place_of, view_of}
-use Rattle.node_model.specs.Steps.{Event, Keys, Making, Post, Tick, FromMember, accept_round, begins, commit_message, deliver_round, makes_accepted, makes_delivered, makes_prepared, next, own_rule, prepare_message, prepare_round, preprepare_message, propose_round, rounds, to_all, votes}
+use Rattle.node_model.specs.Steps.{Event, Keys, Making, Post, Tick, FromMember, accept_round, commit_message, deliver_round, makes_accepted, makes_delivered, makes_prepared, own_rule, prepare_message, prepare_round, preprepare_message, propose_round, rounds, to_all, votes}
 use Rattle.world_safety.specs.Resting.{has_ground}
 use Rattle.world_safety.proofs.Standing.{Bounded}
 use Rattle.world_safety.proofs.Lists.{all_append, all_flat, all_map, all_mapped, all_within}
@@ -34,13 +34,14 @@ use Rattle.world_safety.proofs.Ids.{all_members}
 use Rattle.world_safety.proofs.Accepting.{acceptances_allowed, proposals_allowed}
 use Rattle.world_safety.proofs.Preparing.{due_is, preparations_allowed}
 use Rattle.world_safety.proofs.Delivering.{deliveries_allowed, delivery_is, delivery_spelled}
+use Rattle.world_safety.proofs.Fronts.{Fronts, fronts_fact, fronts_signed}
 use Rattle.world_safety.proofs.Fits.{DeliveredFits, FactFits, FitsAt}
 use Rattle.world_safety.proofs.Fitting.{PlaceFits, acceptance_fits, proposal_fits, view_fits}
 use Rattle.world_safety.specs.Safe.{IsPreparedStatement}
 use Rattle.world_safety.proofs.Backing.{statement_more}
 use Rattle.world_safety.proofs.Placing.{IsBounded, genesis_first, place_fits}
 use Rattle.world_safety.proofs.Sending.{commit_fits, hash_fits, prepare_fits, preprepare_fits}
-use Rattle.world_safety.proofs.Nodes.{IsGoodEvent, NodeStands, did_accept, did_deliver, did_prepare, event_came, ground_more, signed_commit, stands, stands_last}
+use Rattle.world_safety.proofs.Nodes.{IsGoodEvent, NodeStands, did_accept, did_deliver, did_prepare, ground_more, signed_commit, stands, stands_last}
 
 -- a node that isn't Byzantine, where no more members are than the bound allows
 pub node_bounded : (su : Setup) (h : History) (i : ℕ) → IsBounded su → is_in i su.byzantine ≡ false → Bounded su h i
@@ -66,7 +67,15 @@ pub record IsGoodPost (members : List ℕ) (h : History) (i : ℕ) (post : Post)
   pub message : IsGoodMessage h i post.message
   pub to : is_in post.to members ≡ true
 
--- a step of node i so far
+-- these statements are of what node i prepared among these facts, or before
+abbrev pub ArePrepared : History → ℕ → List Fact → List (List ℕ) → Type 0
+ArePrepared h i facts statements = AllByRecursion (IsPreparedStatement (reverse facts ++ h) i) statements
+
+-- a step in which the node did nothing yet
+abbrev pub beginning : PastNode → List Post → Making PastNode
+beginning n posts = record { state = n; facts = []; posts = posts; signed = [] }
+
+-- a step of node i so far; wherever it is stopped, the statements that were signed are of what it prepared
 pub record MakingStands (su : Setup) (i : ℕ) (h : History) (m : Making PastNode) : Type 0 where
   pub setup : m.state.setup ≡ su
   pub id : m.state.id ≡ i
@@ -76,22 +85,33 @@ pub record MakingStands (su : Setup) (i : ℕ) (h : History) (m : Making PastNod
   pub posts : AllByRecursion (IsGoodPost m.state.setup.config.members (told h m) m.state.id) m.posts
   pub actors : AllByRecursion (λ f. (actor f == m.state.id) ≡ true) m.facts
   pub signed : AllByRecursion (IsPreparedStatement (told h m) m.state.id) m.signed
+  pub fronts : Fronts (ArePrepared h m.state.id) m.facts m.signed
 
 told_more : (h : History) (facts : List Fact) (f : Fact) → f ∷ (reverse facts ++ h) ≡ reverse (facts ++ f ∷ []) ++ h
 told_more h facts f = ap (λ (g : History). g ++ h) (sym (reverse-append facts (f ∷ [])))
+
+-- what was signed before stays prepared
+signed_older : (su : Setup) (i : ℕ) (h : History) (m : Making PastNode) → MakingStands su i h m → (f : Fact) → AllByRecursion (IsPreparedStatement (f ∷ told h m) m.state.id) m.signed
+signed_older su i h m st f =
+    let g = told h m in
+    all_map (IsPreparedStatement g m.state.id) (IsPreparedStatement (f ∷ g) m.state.id) (λ statement is. statement_more g f m.state.id statement is) m.signed st.signed
 
 -- one act: a fact, with messages, and what the node is after it
 after_fact : (su : Setup) (i : ℕ) (h : History) (m : Making PastNode) → MakingStands su i h m
     → (f : Fact) (past : Past) (posts : List Post) (signed : List (List ℕ)) → Allowed m.state.setup (told h m) f → (actor f == m.state.id) ≡ true → FactFits f
     → NodeStands m.state.setup (f ∷ told h m) m.state.id past → AllByRecursion (IsGoodPost m.state.setup.config.members (f ∷ told h m) m.state.id) posts
     → AllByRecursion (IsPreparedStatement (f ∷ told h m) m.state.id) signed
+    → (Fronts (ArePrepared h m.state.id) m.facts m.signed → ArePrepared h m.state.id (m.facts ++ f ∷ []) m.signed → ArePrepared h m.state.id (m.facts ++ f ∷ []) signed
+    → Fronts (ArePrepared h m.state.id) (m.facts ++ f ∷ []) signed)
     → MakingStands su i h (record { state = record { setup = m.state.setup; id = m.state.id; past = past }; facts = m.facts ++ f ∷ []; posts = m.posts ++ posts; signed = signed })
-after_fact su i h m st f past posts signed ok mine fits node good backed =
+after_fact su i h m st f past posts signed ok mine fits node good backed grow =
     let n = m.state in
     let is = told_more h m.facts f in
     let all = n.setup.config.members in
     let older = all_map (IsGoodPost all (told h m) n.id) (IsGoodPost all (f ∷ told h m) n.id) (λ post p. record { message = record { ground = ground_more (told h m) f n.id post.message p.message.ground; spelled = p.message.spelled }; to = p.to }) m.posts st.posts in
     let run : IsRun n.setup (f ∷ told h m) = (ok, st.run) in
+    let before : ArePrepared h n.id (m.facts ++ f ∷ []) m.signed = subst (λ (g : History). AllByRecursion (IsPreparedStatement g n.id) m.signed) is (signed_older su i h m st f) in
+    let now : ArePrepared h n.id (m.facts ++ f ∷ []) signed = subst (λ (g : History). AllByRecursion (IsPreparedStatement g n.id) signed) is backed in
     let fit : AllByRecursion FactFits (f ∷ told h m) = (fits, st.fit) in
     record {
       setup = st.setup;
@@ -101,17 +121,12 @@ after_fact su i h m st f past posts signed ok mine fits node good backed =
       node = subst (λ (g : History). NodeStands n.setup g n.id past) is node;
       posts = subst (λ (g : History). AllByRecursion (IsGoodPost all g n.id) (m.posts ++ posts)) is (all_append (IsGoodPost all (f ∷ told h m) n.id) m.posts posts older good);
       actors = all_append (λ f. (actor f == n.id) ≡ true) m.facts (f ∷ []) st.actors (mine, tt);
-      signed = subst (λ (g : History). AllByRecursion (IsPreparedStatement g n.id) signed) is backed;
+      signed = now;
+      fronts = grow st.fronts before now;
     }
 
--- what was signed before stays prepared
-signed_older : (su : Setup) (i : ℕ) (h : History) (m : Making PastNode) → MakingStands su i h m → (f : Fact) → AllByRecursion (IsPreparedStatement (f ∷ told h m) m.state.id) m.signed
-signed_older su i h m st f =
-    let g = told h m in
-    all_map (IsPreparedStatement g m.state.id) (IsPreparedStatement (f ∷ g) m.state.id) (λ statement is. statement_more g f m.state.id statement is) m.signed st.signed
-
 -- a message to all others of the members
-sent_all : (h : History) (i : ℕ) (members all : List ℕ) (message : Message) → members ≡ all → IsGoodMessage h i message → AllByRecursion (IsGoodPost all h i) (to_all members i message)
+pub sent_all : (h : History) (i : ℕ) (members all : List ℕ) (message : Message) → members ≡ all → IsGoodMessage h i message → AllByRecursion (IsGoodPost all h i) (to_all members i message)
 sent_all h i members all message same good =
     let others = filter (λ to. not (to == i)) members in
     let within : AllByRecursion (λ to. is_in to all ≡ true) others = all_within (λ to. is_in to all ≡ true) (λ to. not (to == i)) members (subst (λ all. AllByRecursion (λ to. is_in to all ≡ true) members) same (all_members members)) in
@@ -123,13 +138,13 @@ abbrev pub SignsFit : Keys → Type 0
 SignsFit keys = (statements : List (List ℕ)) → HasSigSpelling (keys.signs statements)
 
 -- what the node holds
-place_in : PastNode → Place
+unfoldable pub place_in : PastNode → Place
 place_in n = place_of n.setup n.id (facts_of n.past)
 
-view_in : PastNode → View
+unfoldable pub view_in : PastNode → View
 view_in n = view_of n.setup n.id n.past
 
-place_members : (n : PastNode) → (place_in n).config.members ≡ n.setup.config.members
+pub place_members : (n : PastNode) → (place_in n).config.members ≡ n.setup.config.members
 unfolding place_in place_of
 place_members n = ap (λ (c : Config). c.members) (config_stays n.setup.config (delivered n.id (facts_of n.past)))
 
@@ -148,7 +163,7 @@ module _ (su : Setup) (i : ℕ) (h : History) (bounded : IsBounded su) (correct 
       (subst (λ i. is_in i m.state.setup.byzantine ≡ false) (sym st.id) (subst (λ (su : Setup). is_in i su.byzantine ≡ false) (sym st.setup) correct))
 
   -- the node's place fits
-  fits_in : (m : Making PastNode) → MakingStands su i h m → PlaceFits (place_in m.state) (view_in m.state).view
+  pub fits_in : (m : Making PastNode) → MakingStands su i h m → PlaceFits (place_in m.state) (view_in m.state).view
   unfolding place_in view_in view_of
   fits_in m st = place_fits m.state.setup (told h m) m.state.id m.state.past (bounded_in m st) st.node st.run st.fit
 
@@ -172,6 +187,7 @@ module _ (su : Setup) (i : ℕ) (h : History) (bounded : IsBounded su) (correct 
       (λ message is. sent_all (f ∷ told h m) n.id place.config.members all message (place_members n) is) (first ++ prepare_message place w b ∷ []) messages) in
       after_fact su i h m st f (Did f (Some b) ∷ n.past) (flat_map (to_all place.config.members n.id) (first ++ prepare_message place w b ∷ [])) m.signed ok (eq-eqb n.id n.id refl) tt
       (did_accept n.setup (told h m) n.id n.past place.config.number w.view place.height b fits st.node) sent (signed_older su i h m st f)
+      (λ all before now. fronts_fact (ArePrepared h n.id) m.facts f m.signed refl all now)
 
   -- PREPARE
   prepare_stands : (m : Making PastNode) → MakingStands su i h m → (keys : Keys) → SignsFit keys → (d : List ℕ) → IsNumber (place_in m.state).height → IsDigest d
@@ -207,6 +223,7 @@ module _ (su : Setup) (i : ℕ) (h : History) (bounded : IsBounded su) (correct 
         },
         tt,
       ))
+      (λ all before now. fronts_signed (ArePrepared h n.id) m.facts f m.signed (commit_text place.config.number w.view place.height d) refl all before now)
 
   -- DELIVER
   deliver_stands : (m : Making PastNode) → MakingStands su i h m → (b : Block) (cert : Cert) → Allowed m.state.setup (told h m) (Delivered m.state.id b (proof_of.Bft cert)) → DeliveredFits b (proof_of.Bft cert)
@@ -215,7 +232,8 @@ module _ (su : Setup) (i : ℕ) (h : History) (bounded : IsBounded su) (correct 
   deliver_stands m st b cert ok fits =
       let n = m.state in
       let f = Delivered n.id b (proof_of.Bft cert) in
-      let one = after_fact su i h m st f (Did f None ∷ n.past) [] m.signed ok (eq-eqb n.id n.id refl) fits (did_deliver n.setup (told h m) n.id n.past b (proof_of.Bft cert) st.node) tt (signed_older su i h m st f) in
+      let one = after_fact su i h m st f (Did f None ∷ n.past) [] m.signed ok (eq-eqb n.id n.id refl) fits (did_deliver n.setup (told h m) n.id n.past b (proof_of.Bft cert) st.node) tt (signed_older su i h m st f)
+      (λ all before now. fronts_fact (ArePrepared h n.id) m.facts f m.signed refl all now) in
       subst (λ (posts : List Post). MakingStands su i h (record { state = record { setup = n.setup; id = n.id; past = Did f None ∷ n.past }; facts = m.facts ++ f ∷ []; posts = posts; signed = m.signed }))
       (append-nil m.posts) one
 
@@ -289,7 +307,7 @@ module _ (su : Setup) (i : ℕ) (h : History) (bounded : IsBounded su) (correct 
       (stands_last n.setup (told h m) n.id n.past st.node st.run (genesis_first n.setup (bounded_in m st))) (correct_in m st) is)
       (delivered_fits m st d.0 d.1 is))
 
-  rounds_stand : (keys : Keys) → SignsFit keys → (k : ℕ) (m : Making PastNode) → MakingStands su i h m → MakingStands su i h (rounds past_ways keys k m)
+  pub rounds_stand : (keys : Keys) → SignsFit keys → (k : ℕ) (m : Making PastNode) → MakingStands su i h m → MakingStands su i h (rounds past_ways keys k m)
   unfolding place_in view_in
   rounds_stand keys signs zero m st = st
   rounds_stand keys signs (suc k) m st =
@@ -310,26 +328,7 @@ module _ (su : Setup) (i : ℕ) (h : History) (bounded : IsBounded su) (correct 
       (proposals_allowed n.setup (told h m) n.id place w offer b (stands n.setup (told h m) n.id n.past st.node) (correct_in m st) is) fits
       (record { ground = or_left _ _ (accepted_itself n.id place.config.number w.view place.height (block_hash b)); spelled = preprepare_fits place w b (fits_in m st) fits }, tt)
 
-  own_rule_stands : (m : Making PastNode) → MakingStands su i h m → (event : Event) → IsGoodEvent su h event → MakingStands su i h (own_rule past_ways event m)
+  pub own_rule_stands : (m : Making PastNode) → MakingStands su i h m → (event : Event) → IsGoodEvent su h event → MakingStands su i h (own_rule past_ways event m)
   unfolding place_in view_in
   own_rule_stands m st (Tick offer) good = propose_round_stands m st offer good (proposed (place_in m.state) (view_in m.state) offer) refl
   own_rule_stands m st (FromMember from bytes) good = st
-
-  -- A STEP of node n
-  pub next_stands : (keys : Keys) → SignsFit keys → (n : PastNode) (event : Event) → n.setup ≡ su → n.id ≡ i → IsRun su h → AllByRecursion FactFits h
-      → NodeStands su h i n.past → IsGoodEvent su h event → MakingStands su i h (next past_ways keys n event)
-  unfolding next
-  next_stands keys signs n event setup id run fit node good =
-      let came : NodeStands su h i (Came event (keys.accepts []) ∷ n.past) = event_came su h i n.past event (keys.accepts []) node good in
-      let first : MakingStands su i h (begins past_ways keys n event) =
-      record {
-        setup = setup;
-        id = id;
-        run = subst (λ su. IsRun su h) (sym setup) run;
-        fit = fit;
-        node = subst (λ su. NodeStands su h n.id (Came event (keys.accepts []) ∷ n.past)) (sym setup) (subst (λ i. NodeStands su h i (Came event (keys.accepts []) ∷ n.past)) (sym id) came);
-        posts = tt;
-        actors = tt;
-        signed = tt;
-      } in
-      rounds_stand keys signs 2 (own_rule past_ways event (begins past_ways keys n event)) (own_rule_stands (begins past_ways keys n event) first event good)

@@ -27,10 +27,11 @@ use Rattle.node_model.specs.Letters.{Commit, config_in, letter_in, on_wire, same
 use Rattle.node_model.specs.Answers.{is_near, is_signed}
 use Rattle.node_model.specs.Steps.{Event, Tick, FromMember}
 use Rattle.node_model.specs.Past.{Past, Opened, Came, Did, Signed, accepted_block, facts_of}
+use Rattle.node_model.specs.Restarts.{Found, found_of}
 use Rattle.node_model.specs.Keeping.{firsts, is_of_view, is_timely, kept, letter_of, of_another, own_commit, place_of, timely, view_of}
 use Rattle.world_safety.specs.Resting.{has_ground, own}
 use Rattle.world_safety.proofs.Standing.{IsKeptWell, Stands, StandsLast, names, rests}
-use Rattle.world_safety.proofs.Fits.{FitsAt, MessageFits}
+use Rattle.world_safety.proofs.Fits.{ActFits, FitsAt, MessageFits}
 use Rattle.world_safety.proofs.Lists.{all_append, all_filter, all_map, all_reverse}
 use Rattle.world_safety.proofs.Own.{config_own, height_own, left_own, own_more, own_other, tip_own, view_own}
 
@@ -40,6 +41,20 @@ pub record IsGoodLetter (su : Setup) (h : History) (letter : Letter) : Type 0 wh
   pub named : names letter.from letter.message ≡ true
   pub fits : MessageFits letter.message
 
+-- what a node did, the newest first, each fact with the block that an acceptance names
+abbrev pub acts_of : Past → List (Fact × Option Block)
+acts_of [] = []
+acts_of (Opened ∷ past) = acts_of past
+acts_of (Came event accepts ∷ past) = acts_of past
+acts_of (Did f b ∷ past) = (f, b) ∷ acts_of past
+acts_of (Signed m accepts ∷ past) = acts_of past
+
+-- what an opening found rests on facts of the node, and its block fits
+pub record IsFound (h : History) (i : ℕ) (f : Found) : Type 0 where
+  pub accepted : has (is_accepted i f.config f.view f.height (block_hash f.block)) h ≡ true
+  pub prepared : f.is_prepared ≡ true → has (is_prepared i f.config f.view f.height (block_hash f.block)) h ≡ true
+  pub fits : FitsAt f.height f.block
+
 -- node i with this past, where these are all facts; it never left or entered a view
 pub record NodeStands (su : Setup) (h : History) (i : ℕ) (past : Past) : Type 0 where
   pub own : own i h ≡ facts_of past
@@ -48,6 +63,8 @@ pub record NodeStands (su : Setup) (h : History) (i : ℕ) (past : Past) : Type 
   pub accepted : (e v s : ℕ) (b : Block) → accepted_block i e v s past ≡ Some b → has (is_accepted i e v s (block_hash b)) h ≡ true
   pub fresh : (e v s : ℕ) → accepted_block i e v s past ≡ None → has (is_accepted_at i e v s) h ≡ false
   pub fits : (e v s : ℕ) (b : Block) → accepted_block i e v s past ≡ Some b → FitsAt s b
+  pub acts : AllByRecursion (λ act. ActFits act.0 act.1) (acts_of past)
+  pub found : (f : Found) → found_of su i past ≡ Some f → IsFound h i f
 
 -- FACTS ARE ONLY ADDED
 
@@ -87,6 +104,9 @@ letters_more : (su : Setup) (h : History) (f : Fact) (letters : List Letter) →
 letters_more su h f letters all =
     all_map (IsGoodLetter su h) (IsGoodLetter su (f ∷ h)) (λ letter good. record { rests = rests_over su.byzantine h (f ∷ []) letter.from (on_wire letter.message) good.rests; named = good.named; fits = good.fits }) letters all
 
+found_more : (h : History) (g : Fact) (i : ℕ) (f : Found) → IsFound h i f → IsFound (g ∷ h) i f
+found_more h g i f is = record { accepted = or_right _ _ is.accepted; prepared = λ p. or_right _ _ (is.prepared p); fits = is.fits }
+
 -- a fact of another node is no acceptance of this one
 other_accepts : (i e v s : ℕ) (f : Fact) → (actor f == i) ≡ false → is_accepted_at i e v s f ≡ false
 other_accepts i e v s (Accepted j e' v' s' d) h = rw h refl
@@ -107,6 +127,8 @@ other_did su h i past f other st =
       accepted = λ e v s b is. or_right _ _ (st.accepted e v s b is);
       fresh = λ e v s is. or_false _ _ (other_accepts i e v s f other) (st.fresh e v s is);
       fits = st.fits;
+      acts = st.acts;
+      found = λ g is. found_more h f i g (st.found g is);
     }
 
 -- IT ACTS
@@ -147,6 +169,8 @@ did_accept su h i past e v s b fit st =
       accepted = λ e' v' s' c is. accepted_here i e v s e' v' s' b c past h (st.accepted e' v' s' c) (is_accepted_at i e' v' s' f) refl is;
       fresh = λ e' v' s' is. fresh_here i e v s e' v' s' b past h (st.fresh e' v' s') (is_accepted_at i e' v' s' f) refl is;
       fits = λ e' v' s' c is. fits_here i e v s e' v' s' b c past fit (st.fits e' v' s' c) (is_accepted_at i e' v' s' f) refl is;
+      acts = (fit, st.acts);
+      found = λ g is. found_more h f i g (st.found g is);
     }
 
 -- it prepares a digest
@@ -161,6 +185,8 @@ did_prepare su h i past e v s d st =
       accepted = λ e' v' s' c is. st.accepted e' v' s' c is;
       fresh = λ e' v' s' is. st.fresh e' v' s' is;
       fits = λ e' v' s' c is. st.fits e' v' s' c is;
+      acts = (tt, st.acts);
+      found = λ g is. found_more h f i g (st.found g is);
     }
 
 -- it delivers a block
@@ -175,6 +201,8 @@ did_deliver su h i past b proof st =
       accepted = λ e' v' s' c is. st.accepted e' v' s' c is;
       fresh = λ e' v' s' is. st.fresh e' v' s' is;
       fits = λ e' v' s' c is. st.fits e' v' s' c is;
+      acts = (tt, st.acts);
+      found = λ g is. found_more h f i g (st.found g is);
     }
 
 -- IT KEEPS LETTERS
@@ -215,6 +243,8 @@ signed_commit su h i past m accepts st is fits =
       accepted = st.accepted;
       fresh = st.fresh;
       fits = st.fits;
+      acts = st.acts;
+      found = st.found;
     }
 
 -- what an event brings is good: the requests have a spelling, and so has the vote message that the bytes spell, which rests on a fact
@@ -234,6 +264,12 @@ letter_brought su h i (FromMember from bytes) good = go (letter_in from bytes) r
     go None is = tt
     go (Some letter) is = unless (letter.from == i) letter (good letter is)
 
+-- what was found stays found until a tick
+found_came : (su : Setup) (h : History) (i : ℕ) (past : Past) (event : Event) (accepts : Accepts) → ((f : Found) → found_of su i past ≡ Some f → IsFound h i f)
+    → (f : Found) → found_of su i (Came event accepts ∷ past) ≡ Some f → IsFound h i f
+found_came su h i past (Tick offer) accepts found f is = absurd (cc)
+found_came su h i past (FromMember from bytes) accepts found f is = found f is
+
 -- an event comes
 pub event_came : (su : Setup) (h : History) (i : ℕ) (past : Past) (event : Event) (accepts : Accepts) → NodeStands su h i past → IsGoodEvent su h event
     → NodeStands su h i (Came event accepts ∷ past)
@@ -246,11 +282,27 @@ event_came su h i past event accepts st good =
       accepted = st.accepted;
       fresh = st.fresh;
       fits = st.fits;
+      acts = st.acts;
+      found = λ f is. found_came su h i past event accepts st.found f is;
     }
 
 -- it is opened on the first block
+nothing_found : (su : Setup) (i : ℕ) → found_of su i (Opened ∷ []) ≡ None
+unfolding view_of
+nothing_found su i = refl
+
 pub opened : (su : Setup) (i : ℕ) → NodeStands su [] i (Opened ∷ [])
-opened su i = record { own = refl; still = refl; timely = tt; accepted = λ e v s b is. absurd (cc); fresh = λ e v s is. refl; fits = λ e v s b is. absurd (cc) }
+opened su i =
+    record {
+      own = refl;
+      still = refl;
+      timely = tt;
+      accepted = λ e v s b is. absurd (cc);
+      fresh = λ e v s is. refl;
+      fits = λ e v s b is. absurd (cc);
+      acts = tt;
+      found = λ f is. absurd (let none = nothing_found su i in cc);
+    }
 
 -- SO ITS PLACE AND ITS VIEW ARE THOSE BY THE HISTORY
 

@@ -1,5 +1,5 @@
 -- What a node keeps is signed in the box of seals, and so what it delivers is certified.
-use Rattle.std.proofs.Common.{◌≡◌, ℕ, zero, suc, true, ◌&&◌, List, [], ◌∷◌, ◌++◌, reverse, refl, sym, subst, ap, ◌∙◌, Option, Some, None}
+use Rattle.std.proofs.Common.{◌≡◌, ℕ, zero, suc, Bool, true, false, ◌&&◌, List, [], ◌∷◌, ◌++◌, reverse, refl, sym, subst, ap, ◌∙◌, Option, Some, None}
 use Rattle.std.specs.Prelude.{◌==◌, not, filter}
 use Rattle.std.specs.List.{AllByRecursion}
 use Rattle.std.proofs.lemmas.Bool.{and_from, and_parts}
@@ -32,12 +32,15 @@ use Rattle.node_model.specs.declared.letter.VoteMessage.{VoteMessage}
 use Rattle.node_model.specs.Letters.{config_in, view_in}
 use Rattle.node_model.specs.Past.{Past, facts_of}
 use Rattle.node_model.specs.Keeping.{PastNode, is_of_view, is_timely, kept, letter_of, own_commit, past_place, past_view, past_ways, place_of, timely, view_of}
-use Rattle.node_model.specs.Steps.{Event, FromMember, Keys, Making, Tick, accept_round, begins, commit_message, deliver_round, makes_accepted, makes_delivered, makes_prepared, next, own_rule, prepare_round, preprepare_message, propose_round, rounds, votes}
+use Rattle.node_model.specs.Restarts.{Found, current, found_of, past_returns, repeat_round, repeats_commit, repeats_if, repeats_on, repeats_votes, step}
+use Rattle.node_model.specs.Steps.{Event, FromMember, Keys, Making, Post, Tick, accept_round, begins, commit_message, deliver_round, makes_accepted, makes_delivered, makes_prepared, own_rule, prepare_round, preprepare_message, propose_round, rounds, votes}
 use Rattle.world_model.specs.Worlds.{keys_of, seals_of}
 use Rattle.world_safety.specs.Certified.{IsCertifiedFact}
 use Rattle.world_safety.proofs.Certifying.{IsKeptSigned, IsSignedLetter, delivery_good}
+use Rattle.world_safety.proofs.Fronts.{Fronts, fronts_again, fronts_fact, fronts_first, fronts_signed}
 use Rattle.world_safety.proofs.Lists.{all_append, all_filter, all_map, all_of, all_reverse}
 use Rattle.world_safety.proofs.Nodes.{all_firsts}
+use Rattle.world_safety.proofs.Makings.{beginning}
 
 -- WHAT IS ACCEPTED STAYS ACCEPTED
 
@@ -103,21 +106,31 @@ delivers_certified c accepts n is b cert due =
 
 -- A STEP so far, where these keys accept more with each statement that is signed
 
+-- the signatures of these facts' certificates are accepted where these statements were signed
+abbrev pub AreCertified : Config → Keys → List Fact → List (List ℕ) → Type 0
+AreCertified c keys facts statements = AllByRecursion (IsCertifiedFact (keys.accepts statements) c) facts
+
+-- so it is wherever it is stopped
 pub record IsSealedMaking (c : Config) (keys : Keys) (m : Making PastNode) : Type 0 where
   pub node : IsSealedNode c (keys.accepts m.signed) m.state
-  pub facts : AllByRecursion (IsCertifiedFact (keys.accepts m.signed) c) m.facts
+  pub facts : AreCertified c keys m.facts m.signed
+  pub fronts : Fronts (AreCertified c keys) m.facts m.signed
 
 module _ (c : Config) (keys : Keys) (grows : (signed : List (List ℕ)) (statement : List ℕ) → KeepsAccepted (keys.accepts signed) (keys.accepts (signed ++ statement ∷ []))) where
   accepted_sealed : (m : Making PastNode) → IsSealedMaking c keys m → (b : Block) (first : List Message) → IsSealedMaking c keys (makes_accepted past_ways b first m)
   accepted_sealed m is b first =
       let place = past_place m.state in
       let w = past_view m.state in
+      let f = Accepted w.me place.config.number w.view place.height (block_hash b) in
+      let facts = all_append (IsCertifiedFact (keys.accepts m.signed) c) m.facts (f ∷ []) is.facts (tt, tt) in
       record {
         node = record { config = is.node.config; letters = is.node.letters };
-        facts = all_append (IsCertifiedFact (keys.accepts m.signed) c) m.facts (Accepted w.me place.config.number w.view place.height (block_hash b) ∷ []) is.facts (tt, tt);
+        facts = facts;
+        fronts = fronts_fact (AreCertified c keys) m.facts f m.signed refl is.fronts facts;
       }
 
   prepared_sealed : (m : Making PastNode) → IsSealedMaking c keys m → (d : List ℕ) → IsSealedMaking c keys (makes_prepared past_ways keys d m)
+  unfolding view_of
   prepared_sealed m is d =
       let n = m.state in
       let place = past_place n in
@@ -129,22 +142,27 @@ module _ (c : Config) (keys : Keys) (grows : (signed : List (List ℕ)) (stateme
       let more = grows m.signed statement in
       let f = Prepared n.id place.config.number w.view place.height d in
       let past = f ∷ facts_of n.past in
+      let unsigned = all_append (IsCertifiedFact old c) m.facts (f ∷ []) is.facts (tt, tt) in
+      let facts = facts_certified old new more c (m.facts ++ f ∷ []) unsigned in
       record {
         node = record {
           config = is.node.config;
           letters = all_append (IsSignedLetter new) (filter (is_timely n.setup n.id past new) (own_commit n.id commit ∷ [])) (timely n.setup n.id n.past)
               (timely_signed n.setup n.id past new (own_commit n.id commit ∷ [])) (letters_signed old new more (timely n.setup n.id n.past) is.node.letters);
         };
-        facts = all_append (IsCertifiedFact new c) m.facts (Prepared w.me place.config.number w.view place.height d ∷ []) (facts_certified old new more c m.facts is.facts) (tt, tt);
+        facts = facts;
+        fronts = fronts_signed (AreCertified c keys) m.facts f m.signed statement refl is.fronts unsigned facts;
       }
 
   delivered_sealed : (m : Making PastNode) → IsSealedMaking c keys m → (b : Block) (cert : Cert) → delivery_due (past_place m.state) (past_view m.state) ≡ Some (b, cert)
       → IsSealedMaking c keys (makes_delivered past_ways b cert m)
   delivered_sealed m is b cert due =
+      let f = Delivered (past_view m.state).me b (proof_of.Bft cert) in
+      let facts = all_append (IsCertifiedFact (keys.accepts m.signed) c) m.facts (f ∷ []) is.facts (delivers_certified c (keys.accepts m.signed) m.state is.node b cert due, tt) in
       record {
         node = record { config = is.node.config; letters = is.node.letters };
-        facts = all_append (IsCertifiedFact (keys.accepts m.signed) c) m.facts (Delivered (past_view m.state).me b (proof_of.Bft cert) ∷ []) is.facts
-            (delivers_certified c (keys.accepts m.signed) m.state is.node b cert due, tt);
+        facts = facts;
+        fronts = fronts_fact (AreCertified c keys) m.facts f m.signed refl is.fronts facts;
       }
 
   accept_round_sealed : (m : Making PastNode) → IsSealedMaking c keys m → (o : Option Block) → IsSealedMaking c keys (accept_round past_ways o m)
@@ -181,11 +199,49 @@ module _ (c : Config) (keys : Keys) (grows : (signed : List (List ℕ)) (stateme
   own_rule_sealed m is (Tick offer) = propose_round_sealed m is (proposed (past_place m.state) (past_view m.state) offer)
   own_rule_sealed m is (FromMember from bytes) = is
 
-  next_sealed : (n : PastNode) (event : Event) → IsSealedNode c (keys.accepts []) n → IsSealedMaking c keys (next past_ways keys n event)
-  unfolding next
-  next_sealed n event is =
+  -- what is sent again
+  votes_again_sealed : (n : PastNode) (posts : List Post) → IsSealedMaking c keys (beginning n posts) → (b : Block) → IsSealedMaking c keys (repeats_votes past_ways b (beginning n posts))
+  votes_again_sealed n posts is b = record { node = is.node; facts = tt; fronts = is.fronts }
+
+  commit_again_sealed : (n : PastNode) (posts : List Post) → IsSealedMaking c keys (beginning n posts) → (d : List ℕ) → IsSealedMaking c keys (repeats_commit past_returns keys d (beginning n posts))
+  commit_again_sealed n posts is d =
+      let place = past_place n in
+      let w = past_view n in
+      let commit = commit_message place w d (keys.signs []) in
+      let statement = commit_text place.config.number w.view place.height d in
+      let old = keys.accepts [] in
+      let new = keys.accepts (statement ∷ []) in
+      record {
+        node = record {
+          config = is.node.config;
+          letters = all_append (IsSignedLetter new) (filter (is_timely n.setup n.id (facts_of n.past) new) (own_commit n.id commit ∷ [])) (timely n.setup n.id n.past)
+              (timely_signed n.setup n.id (facts_of n.past) new (own_commit n.id commit ∷ [])) (letters_signed old new (grows [] statement) (timely n.setup n.id n.past) is.node.letters);
+        };
+        facts = tt;
+        fronts = fronts_again (AreCertified c keys) statement tt tt;
+      }
+
+  round_again_sealed : (n : PastNode) → IsSealedMaking c keys (beginning n []) → (o : Option Found) → IsSealedMaking c keys (repeat_round past_returns keys o (beginning n []))
+  round_again_sealed n is None = is
+  round_again_sealed n is (Some f) = go f.is_prepared (votes_again_sealed n [] is f.block)
+    where
+      posts : List Post
+      posts = (repeats_votes past_ways f.block (beginning n [])).posts
+
+      go : (t : Bool) → IsSealedMaking c keys (beginning n posts) → IsSealedMaking c keys (repeats_if past_returns keys t (block_hash f.block) (beginning n posts))
+      go true voted = commit_again_sealed n posts voted (block_hash f.block)
+      go false voted = voted
+
+  again_sealed : (n : PastNode) → IsSealedMaking c keys (beginning n []) → (event : Event) (found : Option Found) → IsSealedMaking c keys (repeats_on past_returns keys event found (beginning n []))
+  again_sealed n is (Tick offer) found = round_again_sealed n is (current (past_place n) (past_view n) found)
+  again_sealed n is (FromMember from bytes) found = is
+
+  made_sealed : (n : PastNode) (event : Event) → IsSealedNode c (keys.accepts []) n → IsSealedMaking c keys (step past_returns keys n event)
+  unfolding step
+  made_sealed n event is =
       let accepts = keys.accepts [] in
-      let first : IsSealedMaking c keys (begins past_ways keys n event) =
+      let begun = begins past_ways keys n event in
+      let first : IsSealedMaking c keys begun =
       record {
         node = record {
           config = is.config;
@@ -193,8 +249,10 @@ module _ (c : Config) (keys : Keys) (grows : (signed : List (List ℕ)) (stateme
               (timely_signed n.setup n.id (facts_of n.past) accepts (letter_of n.id event)) is.letters;
         };
         facts = tt;
+        fronts = fronts_first (AreCertified c keys) tt;
       } in
-      rounds_sealed 2 (own_rule past_ways event (begins past_ways keys n event)) (own_rule_sealed (begins past_ways keys n event) first event)
+      let again = repeats_on past_returns keys event (found_of n.setup n.id n.past) begun in
+      rounds_sealed 2 (own_rule past_ways event again) (own_rule_sealed again (again_sealed begun.state first event (found_of n.setup n.id n.past)) event)
 
 -- THE BOX only grows
 
@@ -206,6 +264,6 @@ box_grows box i signed statement t sig is =
     subst (λ box. is_sealed box t sig ≡ true) longer (is_sealed-grown (box ++ seals_of i signed) (seal ∷ []) t sig is)
 
 -- a step of a node of a world with this box
-pub step_sealed : (c : Config) (box : List Seal) (i : ℕ) (n : PastNode) (event : Event) → IsSealedNode c (is_sealed box) n → IsSealedMaking c (keys_of box i) (next past_ways (keys_of box i) n event)
+pub step_sealed : (c : Config) (box : List Seal) (i : ℕ) (n : PastNode) (event : Event) → IsSealedNode c (is_sealed box) n → IsSealedMaking c (keys_of box i) (step past_returns (keys_of box i) n event)
 step_sealed c box i n event is =
-    next_sealed c (keys_of box i) (box_grows box i) n event (node_sealed (is_sealed box) (is_sealed (box ++ [])) (is_sealed-grown box []) c n is)
+    made_sealed c (keys_of box i) (box_grows box i) n event (node_sealed (is_sealed box) (is_sealed (box ++ [])) (is_sealed-grown box []) c n is)

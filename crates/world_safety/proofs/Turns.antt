@@ -1,24 +1,25 @@
 -- All worlds of a line are good.
-use Rattle.std.proofs.Common.{◌≡◌, ℕ, zero, suc, ◌+◌, ◌-◌, Bool, true, false, List, [], ◌∷◌, cond, refl, sym, subst, Option, Some, None, Result, Ok, Err, ◌∙◌}
-use Rattle.std.specs.Prelude.{◌==◌, position, slice_get}
+use Rattle.std.proofs.Common.{◌≡◌, ℕ, zero, suc, ◌+◌, ◌-◌, Bool, true, false, ◌&&◌, List, [], ◌∷◌, cond, refl, sym, subst, Option, Some, None, Result, Ok, Err}
+use Rattle.std.specs.Prelude.{◌==◌, drop, not, position, slice_get}
 use Rattle.std.specs.List.{AllByRecursion, All}
 use Rattle.ord_types.specs.Spelling.{request_text}
 use Rattle.safety_model.specs.State.{Setup}
 use Rattle.script.specs.Commands.{IsWellFormed}
 use Rattle.script.specs.declared.command.Command.{Command}
-use Rattle.script.specs.declared.command.Command.TheVariants.{Genesis, Submit, Raw, Show, Tick, Deliver, Flush, Propose, Vote, Lie, Seal}
+use Rattle.script.specs.declared.command.Command.TheVariants.{Genesis, Submit, Raw, Show, Tick, Deliver, Flush, Propose, Vote, Lie, Seal, Stop, StopAt, Start}
 use Rattle.script.specs.declared.command.Range.{Range}
 use Rattle.script_play.specs.declared.ending.Ending.{Ending}
 use Rattle.script_play.specs.Worlds.{worlds, worlds_after}
 use Rattle.node_model.specs.Keeping.{PastNode, past_ways}
 use Rattle.world_model.specs.Histories.{past_setting}
-use Rattle.world_model.specs.Turns.{delivery, most_flushed, ordinary, tick_at, submitted}
-use Rattle.world_model.specs.Worlds.{Entry, Node, entry, is_waiting, letter_from, marked, node_at, tick_of, offer_to}
-use Rattle.world_safety.specs.Within.{PastWorld, after_delivery, after_letter, after_submit, after_tick, in_deliver, in_deliveries, in_flush, in_flushes, in_ticks, where_node, worlds_in, worlds_in_turn}
+use Rattle.world_model.specs.Turns.{delivery, first_outcome, is_running, most_flushed, ordinary, tick_at, submitted}
+use Rattle.world_model.specs.Worlds.{Entry, Node, Outcome, entry, is_waiting, letter_from, marked, node_at, node_started, running, running_at, tick_of, offer_to}
+use Rattle.world_safety.specs.Within.{PastWorld, after_delivery, after_letter, after_start, after_stop, after_stop_at, after_submit, after_tick, in_deliver, in_deliveries, in_flush, in_flushes, in_tick, in_ticks, unless_cut, where_node, where_stopped, worlds_in, worlds_in_turn}
 use Rattle.world_safety.proofs.LyingWithin.{lied_good, proposed_good, sealed_good, voted_good}
 use Rattle.world_safety.proofs.Lists.{all_map, all_mapped}
 use Rattle.world_safety.proofs.Reading.{EntryIn, each_byte, entry_brings, ordinary_bytes, pool_spelled}
-use Rattle.world_safety.proofs.Worlds.{GoodWorld, NodeIn, entry_in, event_keeps, found_entry, found_node, all_set, nodes_apart, with_ids, with_new}
+use Rattle.world_safety.proofs.Events.{event_keeps, stop_keeps}
+use Rattle.world_safety.proofs.Worlds.{GoodWorld, NodeIn, entry_in, found_entry, found_node, all_set, renewed_good}
 use Rattle.std.proofs.lemmas.List.Elements.{All-nil, All-take}
 use Rattle.ord_types.specs.Grammar.{HasRequestSpelling}
 use Rattle.ord_types.proofs.Laws.{IsBytes}
@@ -34,7 +35,7 @@ module _ (su : Setup) (number : ℕ) where
       → ((next : PastWorld) → GoodWorld su next → AllByRecursion (GoodWorld su) (rest next)) → AllByRecursion (GoodWorld su) (worlds_after turn.next rest)
   behind w after turn rest is good more = go turn.printed turn.next is.ends
     where
-      go : (printed : List ℕ) (r : Result PastWorld Ending) → Ends number after is.facts printed r → AllByRecursion (GoodWorld su) (worlds_after r rest)
+      go : (printed : List ℕ) (r : Result PastWorld Ending) → Ends number after is.happened printed r → AllByRecursion (GoodWorld su) (worlds_after r rest)
       go printed (Ok next) ends = more next (subst (GoodWorld su) (sym ends.0) good)
       go printed (Err ending) ends = tt
 
@@ -46,21 +47,32 @@ module _ (su : Setup) (number : ℕ) where
       go true = All-take HasRequestSpelling 1 node.pool fits
       go false = All-nil HasRequestSpelling
 
-  tick_good : (w : PastWorld) (id : ℕ) (o : Option (Node PastNode)) → GoodWorld su w → node_at id w.nodes ≡ o → GoodWorld su (after_tick w o)
-  tick_good w id None good is = good
-  tick_good w id (Some node) good is =
-      let it = found_node (NodeIn su w.told w.seals) (λ node. node.id == id) w.nodes node good.nodes is in
-      event_keeps su w node (tick_of past_setting.ways node) good it (offer_fits node it.pool)
+  -- a node that runs is found
+  running_is : (o : Option (Node PastNode)) (node : Node PastNode) → running o ≡ Some node → o ≡ Some node
+  running_is None node is = absurd (cc)
+  running_is (Some other) node is = go other.runs is
+    where
+      go : (t : Bool) → cond t (Some other) None ≡ Some node → Some other ≡ Some node
+      go true at = at
+      go false at = absurd (cc)
+
+  node_in : (w : PastWorld) (id : ℕ) (node : Node PastNode) → GoodWorld su w → running_at id w.nodes ≡ Some node → NodeIn su w.told w.seals node
+  node_in w id node good is = found_node (NodeIn su w.told w.seals) (λ node. node.id == id) w.nodes node good.nodes (running_is (node_at id w.nodes) node is)
+
+  tick_good : (w : PastWorld) (node : Node PastNode) → GoodWorld su w → NodeIn su w.told w.seals node → GoodWorld su (after_tick w node)
+  tick_good w node good it = event_keeps su w node (tick_of past_setting.returns.ways node) good it (offer_fits node it.pool)
+
+  in_tick_good : (id : ℕ) (w : PastWorld) (o : Option (Node PastNode)) (rest : PastWorld → List PastWorld) → GoodWorld su w → running_at id w.nodes ≡ o
+      → ((next : PastWorld) → GoodWorld su next → AllByRecursion (GoodWorld su) (rest next)) → AllByRecursion (GoodWorld su) (in_tick number w o rest)
+  in_tick_good id w None rest good is more = more w good
+  in_tick_good id w (Some node) rest good is more =
+      let next_good = tick_good w node good (node_in w id node good is) in
+      (next_good, behind w (after_tick w node) (tick_at past_setting number w (Some node)) rest (tick_ends number w node) next_good more)
 
   ticks_good : (id n : ℕ) (w : PastWorld) → GoodWorld su w → AllByRecursion (GoodWorld su) (in_ticks number id n w)
   unfolding in_ticks
   ticks_good id zero w good = tt
-  ticks_good id (suc n) w good =
-      let o = node_at id w.nodes in
-      let next_good = tick_good w id o good refl in (
-        next_good,
-        behind w (after_tick w o) (tick_at past_setting number w o) (λ next. in_ticks number id n next) (tick_ends number w o) next_good (λ next good. ticks_good id n next good),
-      )
+  ticks_good id (suc n) w good = in_tick_good id w (running_at id w.nodes) (λ next. in_ticks number id n next) good refl (λ next good. ticks_good id n next good)
 
   -- DELIVER
   marked_good : (k : ℕ) (e : Entry) (w : PastWorld) → GoodWorld su w → EntryIn su w.told e → GoodWorld su (marked k e w)
@@ -79,13 +91,20 @@ module _ (su : Setup) (number : ℕ) where
         sealed = good.sealed;
       }
 
-  letter_good : (k : ℕ) (e : Entry) (w : PastWorld) (o : Option (Node PastNode)) → GoodWorld su w → EntryIn su w.told e → node_at e.to w.nodes ≡ o → GoodWorld su (after_letter k e w o)
+  letter_good : (k : ℕ) (e : Entry) (w : PastWorld) (o : Option (Node PastNode)) → GoodWorld su w → EntryIn su w.told e → running_at e.to w.nodes ≡ o → GoodWorld su (after_letter k e w o)
   letter_good k e w None good rests is = good
   letter_good k e w (Some node) good rests is =
-      event_keeps su (marked k e w) node (letter_from e) (marked_good k e w good rests) (found_node (NodeIn su w.told w.seals) (λ node. node.id == e.to) w.nodes node good.nodes is) (entry_brings su w.told e rests)
+      event_keeps su (marked k e w) node (letter_from e) (marked_good k e w good rests) (node_in w e.to node good is) (entry_brings su w.told e rests)
 
   delivery_good : (k : ℕ) (e : Entry) (w : PastWorld) → GoodWorld su w → EntryIn su w.told e → GoodWorld su (after_delivery k e w)
-  delivery_good k e w good rests = letter_good k e w (node_at e.to w.nodes) good rests refl
+  delivery_good k e w good rests = letter_good k e w (running_at e.to w.nodes) good rests refl
+
+  unless_good : (id : ℕ) (before after : PastWorld) (worlds : List PastWorld) → AllByRecursion (GoodWorld su) worlds → AllByRecursion (GoodWorld su) (unless_cut id before after worlds)
+  unless_good id before after worlds all = go (is_running id before && not (is_running id after))
+    where
+      go : (t : Bool) → AllByRecursion (GoodWorld su) (cond t [] worlds)
+      go true = tt
+      go false = all
 
   deliveries_good : (n k : ℕ) (w : PastWorld) (rest : PastWorld → List PastWorld) → GoodWorld su w
       → ((next : PastWorld) → GoodWorld su next → AllByRecursion (GoodWorld su) (rest next))
@@ -97,13 +116,14 @@ module _ (su : Setup) (number : ℕ) where
       go : (o : Option Entry) → entry k w ≡ o → ((next : PastWorld) → GoodWorld su next → AllByRecursion (GoodWorld su) (in_deliveries number n (k + 1) next rest))
           → AllByRecursion (GoodWorld su) (elim o [
             | None ↦ []
-            | Some e ↦ after_delivery (k - 1) e w ∷ worlds_after (delivery past_setting number (k - 1) e w).next (λ next. in_deliveries number n (k + 1) next rest)
+            | Some e ↦ after_delivery (k - 1) e w ∷ worlds_after (delivery past_setting number (k - 1) e w).next (λ next. unless_cut e.to w next (in_deliveries number n (k + 1) next rest))
           ])
       go None is then_on = tt
       go (Some e) is then_on =
           let next_good = delivery_good (k - 1) e w good (entry_in su k e w good is) in (
             next_good,
-            behind w (after_delivery (k - 1) e w) (delivery past_setting number (k - 1) e w) (λ next. in_deliveries number n (k + 1) next rest) (delivery_ends number (k - 1) e w) next_good then_on,
+            behind w (after_delivery (k - 1) e w) (delivery past_setting number (k - 1) e w) (λ next. unless_cut e.to w next (in_deliveries number n (k + 1) next rest)) (delivery_ends number (k - 1) e w) next_good
+                (λ next good. unless_good e.to w next (in_deliveries number n (k + 1) next rest) (then_on next good)),
           )
 
   deliver_good : (ranges : List Range) (w : PastWorld) → GoodWorld su w → AllByRecursion (GoodWorld su) (in_deliver number ranges w)
@@ -134,27 +154,33 @@ module _ (su : Setup) (number : ℕ) where
   -- SUBMIT and RAW
   submit_good : (w : PastWorld) (node : Node PastNode) (bytes : List ℕ) → IsBytes bytes → GoodWorld su w → NodeIn su w.told w.seals node → GoodWorld su (after_submit w node bytes)
   submit_good w node bytes fits good is =
-      let new = submitted node bytes in
-      record {
-        first = good.first;
-        ids = good.ids;
-        bounded = good.bounded;
-        run = good.run;
-        fit = good.fit;
-        members = with_ids new w.nodes ∙ good.members;
-        actors = good.actors;
-        nodes = with_new (NodeIn su w.told w.seals) (NodeIn su w.told w.seals) new (λ other not_it before. before)
-            (record { setup = is.setup; id = is.id; correct = is.correct; stands = is.stands; pool = pool_spelled node.pool bytes fits is.pool; stored = is.stored; sealed = is.sealed }) w.nodes (nodes_apart su w good) good.nodes;
-        network = good.network;
-        certified = good.certified;
-        sealed = good.sealed;
-      }
+      renewed_good su w (submitted node bytes) w.outcomes good
+      (record { setup = is.setup; id = is.id; correct = is.correct; stands = is.stands; pool = pool_spelled node.pool bytes fits is.pool; stored = is.stored; sealed = is.sealed })
+
+  -- STOP AT A CALL and START
+  stop_at_good : (w : PastWorld) (node : Node PastNode) → GoodWorld su w → NodeIn su w.told w.seals node → GoodWorld su (after_stop_at w node)
+  stop_at_good w node good is =
+      renewed_good su w (record node { pending = first_outcome w.outcomes }) (drop 1 w.outcomes) good
+      (record { setup = is.setup; id = is.id; correct = is.correct; stands = is.stands; pool = is.pool; stored = is.stored; sealed = is.sealed })
+
+  start_good : (w : PastWorld) (node : Node PastNode) → GoodWorld su w → NodeIn su w.told w.seals node → GoodWorld su (after_start w node)
+  start_good w node good is =
+      renewed_good su w (node_started node) w.outcomes good (record { setup = is.setup; id = is.id; correct = is.correct; stands = is.stands; pool = is.pool; stored = is.stored; sealed = is.sealed })
 
   -- A COMMAND
+  if_good : (t : Bool) (worlds others : List PastWorld) → AllByRecursion (GoodWorld su) worlds → AllByRecursion (GoodWorld su) others → AllByRecursion (GoodWorld su) (cond t worlds others)
+  if_good true worlds others all rest = all
+  if_good false worlds others all rest = rest
+
   where_good : (id : ℕ) (w : PastWorld) (o : Option (Node PastNode)) (worlds : Node PastNode → List PastWorld) → GoodWorld su w → node_at id w.nodes ≡ o
       → ((node : Node PastNode) → NodeIn su w.told w.seals node → AllByRecursion (GoodWorld su) (worlds node)) → AllByRecursion (GoodWorld su) (where_node o worlds)
   where_good id w None worlds good is each = tt
-  where_good id w (Some node) worlds good is each = each node (found_node (NodeIn su w.told w.seals) (λ node. node.id == id) w.nodes node good.nodes is)
+  where_good id w (Some node) worlds good is each = if_good node.runs (worlds node) [] (each node (found_node (NodeIn su w.told w.seals) (λ node. node.id == id) w.nodes node good.nodes is)) tt
+
+  where_still : (id : ℕ) (w : PastWorld) (o : Option (Node PastNode)) (worlds : Node PastNode → List PastWorld) → GoodWorld su w → node_at id w.nodes ≡ o
+      → ((node : Node PastNode) → NodeIn su w.told w.seals node → AllByRecursion (GoodWorld su) (worlds node)) → AllByRecursion (GoodWorld su) (where_stopped o worlds)
+  where_still id w None worlds good is each = tt
+  where_still id w (Some node) worlds good is each = if_good node.runs [] (worlds node) tt (each node (found_node (NodeIn su w.told w.seals) (λ node. node.id == id) w.nodes node good.nodes is))
 
   command_good : (w : PastWorld) (command : Command) → IsWellFormed command → GoodWorld su w → AllByRecursion (GoodWorld su) (worlds_in number w command)
   command_good w (Genesis members byzantine) formed good = tt
@@ -168,6 +194,9 @@ module _ (su : Setup) (number : ℕ) where
   command_good w (Tick id count) formed good = where_good id w (node_at id w.nodes) (λ node. in_ticks number id count w) good refl (λ node is. ticks_good id count w good)
   command_good w (Deliver ranges) formed good = deliver_good ranges w good
   command_good w (Flush only) formed good = flush_good only most_flushed w good
+  command_good w (Stop id image) formed good = where_good id w (node_at id w.nodes) (λ node. after_stop w node ∷ []) good refl (λ node is. (stop_keeps su w node good is, tt))
+  command_good w (StopAt id call image) formed good = where_good id w (node_at id w.nodes) (λ node. after_stop_at w node ∷ []) good refl (λ node is. (stop_at_good w node good is, tt))
+  command_good w (Start id) formed good = where_still id w (node_at id w.nodes) (λ node. after_start w node ∷ []) good refl (λ node is. (start_good w node good is, tt))
   command_good w (Propose from to view client serial payload) formed good = proposed_good su w from to view client serial payload formed good
   command_good w (Vote from to kind view k) formed good = voted_good su w from to kind view k formed good
   command_good w (Lie from to bytes) formed good = lied_good su w from to bytes formed good
@@ -175,18 +204,21 @@ module _ (su : Setup) (number : ℕ) where
 
 -- WHERE THERE MAY BE NO WORLD YET
 
-pub turn_good : (o : Option PastWorld) (number : ℕ) (command : Command) → IsWellFormed command → IsGoodIn o → AllByRecursion IsGoodIn (worlds_in_turn o number command)
-turn_good None number (Genesis members byzantine) formed good = begun_good number members byzantine formed.member_ids
-turn_good None number (Submit id client serial payload) formed good = tt
-turn_good None number (Raw id bytes) formed good = tt
-turn_good None number (Show id block) formed good = tt
-turn_good None number (Tick id count) formed good = tt
-turn_good None number (Deliver ranges) formed good = tt
-turn_good None number (Flush only) formed good = tt
-turn_good None number (Propose from to view client serial payload) formed good = tt
-turn_good None number (Vote from to kind view k) formed good = tt
-turn_good None number (Lie from to bytes) formed good = tt
-turn_good None number (Seal id bytes) formed good = tt
-turn_good (Some w) number command formed good =
+pub turn_good : (outcomes : List Outcome) (o : Option PastWorld) (number : ℕ) (command : Command) → IsWellFormed command → IsGoodIn o → AllByRecursion IsGoodIn (worlds_in_turn outcomes o number command)
+turn_good outcomes None number (Genesis members byzantine) formed good = begun_good outcomes number members byzantine formed.member_ids
+turn_good outcomes None number (Submit id client serial payload) formed good = tt
+turn_good outcomes None number (Raw id bytes) formed good = tt
+turn_good outcomes None number (Show id block) formed good = tt
+turn_good outcomes None number (Tick id count) formed good = tt
+turn_good outcomes None number (Deliver ranges) formed good = tt
+turn_good outcomes None number (Flush only) formed good = tt
+turn_good outcomes None number (Stop id image) formed good = tt
+turn_good outcomes None number (StopAt id call image) formed good = tt
+turn_good outcomes None number (Start id) formed good = tt
+turn_good outcomes None number (Propose from to view client serial payload) formed good = tt
+turn_good outcomes None number (Vote from to kind view k) formed good = tt
+turn_good outcomes None number (Lie from to bytes) formed good = tt
+turn_good outcomes None number (Seal id bytes) formed good = tt
+turn_good outcomes (Some w) number command formed good =
     all_mapped IsGoodIn Some (worlds_in number w command)
     (all_map (GoodWorld good.setup) (λ w. IsGoodIn (Some w)) (λ next is. record { setup = good.setup; good = is }) (worlds_in number w command) (command_good good.setup number w command formed good.good))

@@ -3,12 +3,10 @@ use Rattle.std.proofs.Common.{◌≡◌, ℕ, zero, suc, ◌+◌, ◌<◌, ◌�
 use Rattle.std.specs.Prelude.{◌==◌, ◌⊎◌, filter, not, slice_get}
 use Rattle.std.specs.List.{All, AllByRecursion, find, flat_map}
 use Rattle.std.proofs.lemmas.Bool.{eq-eqb, eqb-true, false_from_ne_true, or_cases, or_left, or_right}
-use Rattle.std.proofs.lemmas.List.Elements.{All-filter}
-use Rattle.ord_types.specs.Grammar.{Ascend, HasRequestSpelling, IsWord}
+use Rattle.ord_types.specs.Grammar.{Ascend, HasRequestSpelling}
 use Rattle.ord_types.specs.Members.{is_in}
 use Rattle.ord_types.specs.declared.values.Proof.TheVariants as proof_of
-use Rattle.safety_model.specs.Blocks.{Block}
-use Rattle.safety_model.specs.Facts.{History, Proof}
+use Rattle.safety_model.specs.Facts.{History}
 use Rattle.safety_model.specs.declared.fact.Fact.{Fact}
 use Rattle.safety_model.specs.State.{Setup}
 use Rattle.safety_model.specs.Rules.{IsRun, actor}
@@ -17,25 +15,19 @@ use Rattle.signer_edge.specs.Seals.{is_sealed}
 use Rattle.signer_edge.specs.Signing.{KeepsAccepted}
 use Rattle.signer_edge.specs.declared.seals.Seal.{Seal}
 use Rattle.signer_edge.proofs.SealFacts.{is_sealed-grown}
-use Rattle.bft_wire.specs.Spelling.{message_text}
 use Rattle.node_model.specs.Past.{Past}
 use Rattle.node_model.specs.Keeping.{PastNode}
-use Rattle.node_model.specs.Steps.{Event, Post}
-use Rattle.world_model.specs.Histories.{past_setting}
-use Rattle.world_model.specs.Pools.{has_id}
-use Rattle.world_model.specs.Worlds.{Entry, Node, World, entry, keys_of, making, node_after, requests_in, seals_of, sent_by, stored_in, with_node, world_after}
+use Rattle.world_model.specs.Worlds.{Entry, Node, Outcome, World, entry, seals_of, stored_in, with_node}
 use Rattle.world_safety.specs.Certified.{IsCertifiedFact}
 use Rattle.world_safety.specs.Safe.{IsAllowedSeal, IsPreparedStatement, ids_of, setup_of, stored}
 use Rattle.world_safety.proofs.Lists.{all_append, all_map, all_mapped, all_reverse, all_within}
 use Rattle.world_safety.proofs.Fits.{FactFits}
-use Rattle.world_safety.proofs.Ids.{member_has}
-use Rattle.world_safety.proofs.Makings.{IsGoodPost, MakingStands, next_stands, told}
-use Rattle.world_safety.proofs.Own.{own_others, stored_more}
+use Rattle.world_safety.proofs.Own.{own_others}
 use Rattle.world_safety.proofs.Placing.{IsBounded}
 use Rattle.world_safety.proofs.Backing.{seal_over}
-use Rattle.world_safety.proofs.Nodes.{IsGoodEvent, NodeStands, other_did}
-use Rattle.world_safety.proofs.Reading.{EntryIn, entry_over, posted_in, seals_fit}
-use Rattle.world_safety.proofs.Sealing.{IsSealedMaking, IsSealedNode, facts_certified, node_sealed, step_sealed}
+use Rattle.world_safety.proofs.Nodes.{NodeStands, other_did}
+use Rattle.world_safety.proofs.Reading.{EntryIn}
+use Rattle.world_safety.proofs.Sealing.{IsSealedNode, facts_certified, node_sealed}
 
 -- the members that aren't Byzantine
 abbrev pub correct_in : Setup → List ℕ
@@ -161,67 +153,83 @@ with_new P Q new keep good (node ∷ nodes) apart all = go (node.id == new.id) r
     go true is rest = (good, keep_rest P Q new.id keep nodes (subst (λ id. AllByRecursion (λ y. (y == id) ≡ false) (ids_of nodes)) (eqb-true node.id new.id is) apart.0) all.1)
     go false is rest = (keep node is all.0, rest)
 
--- AN EVENT
+-- A NODE GOES ON: one of its id stands in its place, which did these facts and signed these statements, and this is the network then
+pub record GoesOn (su : Setup) (w : World PastNode History) (new : Node PastNode) (facts : List Fact) (network : List Entry) (signed : List (List ℕ)) : Type 0 where
+  pub correct : is_in new.id (correct_in su) ≡ true
+  pub run : IsRun su (reverse facts ++ w.told)
+  pub fit : AllByRecursion FactFits (reverse facts ++ w.told)
+  pub mine : AllByRecursion (λ f. (actor f == new.id) ≡ true) facts
+  pub node : NodeIn su (reverse facts ++ w.told) (w.seals ++ seals_of new.id signed) new
+  pub sent : AllByRecursion (EntryIn su (reverse facts ++ w.told)) network
+  pub prepared : AllByRecursion (IsPreparedStatement (reverse facts ++ w.told) new.id) signed
+  pub certified : AllByRecursion (IsCertifiedFact (is_sealed (w.seals ++ seals_of new.id signed)) su.config) facts
 
-pub event_keeps : (su : Setup) (w : World PastNode History) (node : Node PastNode) (event : Event) → GoodWorld su w → NodeIn su w.told w.seals node → IsGoodEvent su w.told event
-    → GoodWorld su (world_after past_setting w node (making past_setting w node event))
-event_keeps su w node event good is brought =
+abbrev pub gone_on : World PastNode History → Node PastNode → List Fact → List Entry → List (List ℕ) → World PastNode History
+gone_on w new facts network signed =
+    record {
+      config = w.config;
+      byzantine = w.byzantine;
+      nodes = with_node new w.nodes;
+      network = network;
+      seals = w.seals ++ seals_of new.id signed;
+      told = reverse facts ++ w.told;
+      outcomes = w.outcomes;
+    }
+
+pub goes_on_good : (su : Setup) (w : World PastNode History) (new : Node PastNode) (facts : List Fact) (network : List Entry) (signed : List (List ℕ)) → GoodWorld su w
+    → GoesOn su w new facts network signed → GoodWorld su (gone_on w new facts network signed)
+goes_on_good su w new facts network signed good is =
     let h = w.told in
-    let m = making past_setting w node event in
-    let i = node.id in
-    let correct = correct_is su i is.correct in
-    let word : IsWord i = member_has IsWord i su.config.members good.bounded.members.words correct.member in
-    let st : MakingStands su i h m = next_stands su i h good.bounded correct.honest (keys_of w.seals i) (seals_fit w.seals i word) node.state event is.setup is.id good.run good.fit is.stands brought in
-    let g = told h m in
-    let run : IsRun su g = subst (λ su. IsRun su g) st.setup st.run in
-    let mine : NodeStands su g i m.state.past = subst (λ i. NodeStands su g i m.state.past) st.id (subst (λ su. NodeStands su g m.state.id m.state.past) st.setup st.node) in
-    let acts : AllByRecursion (λ f. (actor f == i) ≡ true) (reverse m.facts) = all_reverse (λ f. (actor f == i) ≡ true) m.facts (subst (λ i. AllByRecursion (λ f. (actor f == i) ≡ true) m.facts) st.id st.actors) in
-    let members = su.config.members in
-    let posts : AllByRecursion (IsGoodPost members g i) m.posts = subst (λ i. AllByRecursion (IsGoodPost members g i) m.posts) st.id (subst (λ (su : Setup). AllByRecursion (IsGoodPost su.config.members g m.state.id) m.posts) st.setup st.posts) in
-    let new = node_after node m in
-    let sent = all_mapped (EntryIn su g) (λ (post : Post). record { from = i; to = post.to; bytes = message_text post.message; came = false }) m.posts
-    (all_map (IsGoodPost members g i) (λ (post : Post). EntryIn su g (record { from = i; to = post.to; bytes = message_text post.message; came = false })) (λ post good. posted_in su g i post.to post.message correct.member good) m.posts posts) in
-    let signed : AllByRecursion (IsPreparedStatement g i) m.signed = subst (λ i. AllByRecursion (IsPreparedStatement g i) m.signed) st.id st.signed in
-    let sealed_by = all_mapped (IsSealIn su g) (λ (statement : List ℕ). record { signer = i; statement = statement }) m.signed
-    (all_map (IsPreparedStatement g i) (λ (statement : List ℕ). IsSealIn su g (record { signer = i; statement = statement })) (λ statement prepared. inr (is.correct, prepared)) m.signed signed) in
-    let delivered = flat_map requests_in m.facts in
-    let box = w.seals ++ seals_of i m.signed in
-    let grown : KeepsAccepted (is_sealed w.seals) (is_sealed box) = is_sealed-grown w.seals (seals_of i m.signed) in
-    let sealed : IsSealedMaking su.config (keys_of w.seals i) m = step_sealed su.config w.seals i node.state event is.sealed in
+    let i = new.id in
+    let g = reverse facts ++ h in
+    let box = w.seals ++ seals_of i signed in
+    let grown : KeepsAccepted (is_sealed w.seals) (is_sealed box) = is_sealed-grown w.seals (seals_of i signed) in
+    let acts : AllByRecursion (λ f. (actor f == i) ≡ true) (reverse facts) = all_reverse (λ f. (actor f == i) ≡ true) facts is.mine in
+    let sealed_by = all_mapped (IsSealIn su g) (λ (statement : List ℕ). record { signer = i; statement = statement }) signed
+    (all_map (IsPreparedStatement g i) (λ (statement : List ℕ). IsSealIn su g (record { signer = i; statement = statement })) (λ statement prepared. inr (is.correct, prepared)) signed is.prepared) in
     record {
       first = good.first;
       ids = good.ids;
       bounded = good.bounded;
-      run = run;
-      fit = st.fit;
+      run = is.run;
+      fit = is.fit;
       members = with_ids new w.nodes ∙ good.members;
-      actors = all_append (λ f. is_in (actor f) (correct_in su) ≡ true) (reverse m.facts) h
-          (all_map (λ f. (actor f == i) ≡ true) (λ f. is_in (actor f) (correct_in su) ≡ true) (λ f mine. subst (λ id. is_in id (correct_in su) ≡ true) (sym (eqb-true (actor f) i mine)) is.correct) (reverse m.facts) acts) good.actors;
+      actors = all_append (λ f. is_in (actor f) (correct_in su) ≡ true) (reverse facts) h
+          (all_map (λ f. (actor f == i) ≡ true) (λ f. is_in (actor f) (correct_in su) ≡ true) (λ f mine. subst (λ id. is_in id (correct_in su) ≡ true) (sym (eqb-true (actor f) i mine)) is.correct) (reverse facts) acts) good.actors;
       nodes = with_new (NodeIn su h w.seals) (NodeIn su g box) new
           (λ other not_it before. record {
             setup = before.setup;
             id = before.id;
             correct = before.correct;
-            stands = other_over su h i other.id other.state.past (reverse m.facts) acts not_it before.stands;
+            stands = other_over su h i other.id other.state.past (reverse facts) acts not_it before.stands;
             pool = before.pool;
-            stored = before.stored ∙ sym (stored_others su i other.id (reverse m.facts) h acts not_it);
+            stored = before.stored ∙ sym (stored_others su i other.id (reverse facts) h acts not_it);
             sealed = node_sealed (is_sealed w.seals) (is_sealed box) grown su.config other.state before.sealed;
           })
-          (record {
-            setup = st.setup;
-            id = st.id;
-            correct = is.correct;
-            stands = mine;
-            pool = All-filter (λ r. not (has_id r.id delivered)) HasRequestSpelling node.pool is.pool;
-            stored = ap (λ (entries : List (Block × Proof)). entries ++ flat_map stored_in m.facts) is.stored ∙ sym (stored_more su i m.facts h acts);
-            sealed = sealed.node;
-          })
-          w.nodes (nodes_apart su w good) good.nodes;
-      network = all_append (EntryIn su g) w.network (sent_by i m.posts) (all_map (EntryIn su h) (EntryIn su g) (entry_over su h (reverse m.facts)) w.network good.network) sent;
-      certified = all_append (IsCertifiedFact (is_sealed box) su.config) (reverse m.facts) h (all_reverse (IsCertifiedFact (is_sealed box) su.config) m.facts sealed.facts)
+          is.node w.nodes (nodes_apart su w good) good.nodes;
+      network = is.sent;
+      certified = all_append (IsCertifiedFact (is_sealed box) su.config) (reverse facts) h (all_reverse (IsCertifiedFact (is_sealed box) su.config) facts is.certified)
           (facts_certified (is_sealed w.seals) (is_sealed box) grown su.config h good.certified);
-      sealed = all_append (IsSealIn su g) w.seals (seals_of i m.signed)
-          (all_map (IsSealIn su h) (IsSealIn su g) (seal_over su.config.members su.byzantine (correct_in su) h (reverse m.facts)) w.seals good.sealed) sealed_by;
+      sealed = all_append (IsSealIn su g) w.seals (seals_of i signed)
+          (all_map (IsSealIn su h) (IsSealIn su g) (seal_over su.config.members su.byzantine (correct_in su) h (reverse facts)) w.seals good.sealed) sealed_by;
+    }
+
+-- another node of the same id, which did nothing
+pub renewed_good : (su : Setup) (w : World PastNode History) (new : Node PastNode) (outcomes : List Outcome) → GoodWorld su w → NodeIn su w.told w.seals new
+    → GoodWorld su (record w { nodes = with_node new w.nodes; outcomes = outcomes })
+renewed_good su w new outcomes good is =
+    record {
+      first = good.first;
+      ids = good.ids;
+      bounded = good.bounded;
+      run = good.run;
+      fit = good.fit;
+      members = with_ids new w.nodes ∙ good.members;
+      actors = good.actors;
+      nodes = with_new (NodeIn su w.told w.seals) (NodeIn su w.told w.seals) new (λ other not_it before. before) is w.nodes (nodes_apart su w good) good.nodes;
+      network = good.network;
+      certified = good.certified;
+      sealed = good.sealed;
     }
 
 -- WHAT IS FOUND

@@ -1,5 +1,5 @@
 -- The proof of each delivered block is a certificate whose signatures stand in the box of seals, in every world of a script.
-use Rattle.std.specs.Prelude.{ℕ, List, [], Option, Some, None, IsTrue, ⊤}
+use Rattle.std.specs.Prelude.{ℕ, List, Option, Some, None, IsTrue, ⊤}
 use Rattle.std.specs.List.{AllByRecursion}
 use Rattle.ord_types.specs.Hashes.{block_hash}
 use Rattle.ord_types.specs.declared.values.Proof.TheVariants as proof_of
@@ -10,6 +10,7 @@ use Rattle.safety_model.specs.declared.fact.Fact.TheVariants.{Accepted, Prepared
 use Rattle.signer_edge.specs.Accepts.{Accepts}
 use Rattle.signer_edge.specs.Certificates.{is_good_cert}
 use Rattle.signer_edge.specs.Seals.{is_sealed}
+use Rattle.world_model.specs.Worlds.{Outcome}
 use Rattle.world_safety.specs.Within.{PastWorld, all_worlds_of}
 
 -- the proof is a certificate of the block under the configuration (SmartBFT): its signatures are of members, at least a
@@ -36,6 +37,6 @@ abbrev pub IsCertifiedIn : Option PastWorld → Type 0
 IsCertifiedIn None = ⊤
 IsCertifiedIn (Some w) = IsCertified w
 
--- all worlds of every script
+-- all worlds of every script, for every list of outcomes
 abbrev pub AllWorldsAreCertified : Type 0
-AllWorldsAreCertified = (script : List ℕ) → AllByRecursion IsCertifiedIn (all_worlds_of [] script)
+AllWorldsAreCertified = (outcomes : List Outcome) (script : List ℕ) → AllByRecursion IsCertifiedIn (all_worlds_of outcomes script)

@@ -1,5 +1,5 @@
 -- What is so of every world of a script: what its nodes did is a run, its messages rest on what their senders did, and so its ledgers agree.
-use Rattle.std.specs.Prelude.{◌≡◌, ◌≤◌, ◌⊎◌, ℕ, ◌==◌, Bool, false, ◌||◌, ◌&&◌, not, List, [], ◌∷◌, map, filter, length, reverse, Option, Some, None, IsSome, IsTrue, ⊤}
+use Rattle.std.specs.Prelude.{◌≡◌, ◌≤◌, ◌⊎◌, ℕ, ◌==◌, Bool, false, ◌||◌, ◌&&◌, not, List, ◌∷◌, map, filter, length, reverse, Option, Some, None, IsSome, IsTrue, ⊤}
 use Rattle.std.specs.List.{AllByRecursion, flat_map}
 use Rattle.ord_types.specs.Grammar.{IsDigest, IsNumber}
 use Rattle.ord_types.specs.Members.{fault_bound, how_many_in, is_in}
@@ -20,7 +20,7 @@ use Rattle.node_model.specs.Keeping.{PastNode, setup_on}
 use Rattle.node_model.specs.Past.{facts_of}
 use Rattle.world_model.specs.Histories.{worlds_of}
 use Rattle.world_model.specs.Liars.{is_raft_if_any}
-use Rattle.world_model.specs.Worlds.{Entry, Node, World, stored_in}
+use Rattle.world_model.specs.Worlds.{Entry, Node, Outcome, World, stored_in}
 use Rattle.world_safety.specs.Resting.{has_ground, own}
 
 abbrev pub ids_of : List (Node PastNode) → List ℕ
@@ -38,7 +38,7 @@ correct_members w = filter (λ id. not (is_in id w.byzantine)) w.config.members
 abbrev pub stored : Setup → ℕ → History → List (Block × Proof)
 stored su i h = (su.genesis, proof_of.Raft) ∷ flat_map stored_in (reverse (own i h))
 
--- A node of the world: the list of all facts has its own facts in their order, and what it shows of its ledger is what it
+-- A node of the world, running or stopped: the list of all facts has its own facts in their order, and its ledger is what it
 -- delivered, the blocks of the ledger by the history.
 pub record IsNodeOf (su : Setup) (told : History) (node : Node PastNode) : Type 0 where
   pub setup : node.state.setup ≡ su
@@ -116,6 +116,6 @@ abbrev pub IsSafe : Option (World PastNode History) → Type 0
 IsSafe None = ⊤
 IsSafe (Some w) = IsSafeWorld w
 
--- every world of every script is safe
+-- every world of every script is safe, for every list of outcomes
 abbrev pub EveryWorldIsSafe : Type 0
-EveryWorldIsSafe = (script : List ℕ) → AllByRecursion IsSafe (worlds_of [] script)
+EveryWorldIsSafe = (outcomes : List Outcome) (script : List ℕ) → AllByRecursion IsSafe (worlds_of outcomes script)

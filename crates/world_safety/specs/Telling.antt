@@ -1,5 +1,5 @@
 -- The text of a script is told by the histories of its worlds: the block lines are those of the facts that happened, line by line.
-use Rattle.std.specs.Prelude.{◌≡◌, ℕ, ◌+◌, ◌<◌, ◌&&◌, List, [], ◌∷◌, ◌++◌, codes, length, map, reverse, slice_get, Option, Some, None, Result, Ok, Err, IsTrue, ⊤}
+use Rattle.std.specs.Prelude.{◌≡◌, ℕ, ◌+◌, ◌<◌, true, false, ◌&&◌, List, [], ◌∷◌, ◌++◌, codes, length, map, reverse, slice_get, Option, Some, None, Result, Ok, Err, IsTrue, ⊤}
 use Rattle.std.specs.List.{AllByRecursion, flat_map}
 use Rattle.ord_types.specs.Members.{is_in}
 use Rattle.safety_model.specs.Blocks.{Block}
@@ -17,9 +17,9 @@ use Rattle.script_play.specs.Runs.{line_turn}
 use Rattle.script_play.specs.Texts.{malformed_text, not_built_text, too_many_faulty_text}
 use Rattle.world_model.specs.Histories.{past_setting, run_of}
 use Rattle.world_model.specs.Pools as pool
-use Rattle.world_model.specs.Texts.{answer_text, deliver_text, fact_text, flush_text, genesis_text, lied_text, limit_text, refused_text, seal_text, show_text, tick_text}
-use Rattle.world_model.specs.Turns.{closing_of, turn_of}
-use Rattle.world_model.specs.Worlds.{Entry, Node, entry, node_at}
+use Rattle.world_model.specs.Texts.{answer_text, deliver_text, fact_text, flush_text, genesis_text, lied_text, limit_text, refused_text, seal_text, show_text, start_text, stop_at_text, stopped_text, tick_text}
+use Rattle.world_model.specs.Turns.{closing_of, is_running, turn_of}
+use Rattle.world_model.specs.Worlds.{Entry, Node, Outcome, entry, node_at}
 use Rattle.node_model.specs.Keeping.{PastNode}
 use Rattle.world_safety.specs.Safe.{IsSafe, signs_anything}
 use Rattle.world_safety.specs.Within.{PastWorld, all_worlds_of, worlds_in_line}
@@ -30,10 +30,21 @@ abbrev pub told_in : Option PastWorld → History
 told_in None = []
 told_in (Some w) = w.told
 
--- the history after each event, where these are the facts of the events; the newest fact stands first
-abbrev pub histories_after : History → List (List Fact) → List History
+-- what happened in an event
+pub data Happened : Type 0 where
+  -- it went through, with these facts
+  Went : List Fact → Happened
+  -- the node of this id was stopped in it, and these facts were kept
+  Stopped : ℕ → List Fact → Happened
+
+abbrev pub facts_in : Happened → List Fact
+facts_in (Went facts) = facts
+facts_in (Stopped id facts) = facts
+
+-- the history after each event; the newest fact stands first
+abbrev pub histories_after : History → List Happened → List History
 histories_after h [] = []
-histories_after h (facts ∷ events) = (reverse facts ++ h) ∷ histories_after (reverse facts ++ h) events
+histories_after h (event ∷ events) = (reverse (facts_in event) ++ h) ∷ histories_after (reverse (facts_in event) ++ h) events
 
 -- the last of x and of those after it
 abbrev pub last_of : {X : Type 0} → X → List X → X
@@ -51,6 +62,9 @@ pub data Refusal : Type 0 where
   NoEntry : Refusal
   NoBlock : Refusal
   RaftMessage : Refusal
+  -- the node is stopped, or it runs
+  NodeStopped : Refusal
+  NodeRuns : Refusal
 
 abbrev pub reason : Refusal → List ℕ
 reason NoWorld = codes "no world"
@@ -61,8 +75,10 @@ reason NotByzantine = codes "not byzantine"
 reason NoEntry = codes "no entry"
 reason NoBlock = codes "no block"
 reason RaftMessage = codes "raft message"
+reason NodeStopped = codes "stopped"
+reason NodeRuns = codes "running"
 
--- what is said of a line in the end, behind its block lines
+-- what is said of a line in the end, behind the lines of its events
 pub data Reply : Type 0 where
   -- an empty line, or a comment
   Silent : Reply
@@ -80,6 +96,11 @@ pub data Reply : Type 0 where
   Lied : List ℕ → ℕ → Reply
   -- the place of the seal
   Sealed : ℕ → Reply
+  -- a node that was stopped in the line, which ends so: nothing more is said
+  Cut : ℕ → Reply
+  -- the node that will be stopped at a call of its disk, and the one that was started
+  Pending : ℕ → Reply
+  Started : ℕ → Reply
   Refused : Refusal → Reply
   -- the limit that was reached
   Limited : ℕ → Reply
@@ -99,6 +120,9 @@ reply_text number (Came count) = deliver_text number count
 reply_text number (Flushed count) = flush_text number count
 reply_text number (Lied word sent) = lied_text number word sent
 reply_text number (Sealed place) = seal_text number place
+reply_text number (Cut node) = []
+reply_text number (Pending node) = stop_at_text number node
+reply_text number (Started node) = start_text number node
 reply_text number (Refused refusal) = refused_text number (reason refusal)
 reply_text number (Limited limit) = limit_text number limit
 reply_text number (Faulty config count bound) = too_many_faulty_text number config count bound
@@ -113,6 +137,17 @@ route_in (Means (command_of.Propose from to view client serial payload)) = Some 
 route_in (Means (command_of.Vote from to kind view k)) = Some (from, to)
 route_in (Means (command_of.Lie from to bytes)) = Some (from, to)
 route_in _ = None
+
+-- the node that a line is about
+abbrev pub node_in : Meaning → Option ℕ
+node_in (Means (command_of.Submit id client serial payload)) = Some id
+node_in (Means (command_of.Raw id bytes)) = Some id
+node_in (Means (command_of.Show id block)) = Some id
+node_in (Means (command_of.Tick id count)) = Some id
+node_in (Means (command_of.Stop id image)) = Some id
+node_in (Means (command_of.StopAt id call image)) = Some id
+node_in (Means (command_of.Start id)) = Some id
+node_in _ = None
 
 -- the line shows the block at this place of the ledger of the world's node of this id
 pub record IsStored (m : Meaning) (w : PastWorld) (id : ℕ) (b : Block) (proof : Proof) : Type 0 where
@@ -143,32 +178,62 @@ abbrev pub HasWorld : (PastWorld → Type 0) → Option PastWorld → Type 0
 HasWorld Is None = ⊥
 HasWorld Is (Some w) = Is w
 
+-- the line is about this node, which runs there
+abbrev pub IsUp : Meaning → ℕ → Option PastWorld → Type 0
+IsUp m id o = (node_in m ≡ Some id) × HasWorld (λ w. is_running id w ≡ true) o
+
+-- no node of this id runs there
+abbrev pub IsStill : ℕ → Option PastWorld → Type 0
+IsStill id o = HasWorld (λ w. is_running id w ≡ false) o
+
 -- what a reply tells is so, where its line means this, and this is the last world of the line
 abbrev pub IsSo : Meaning → Option PastWorld → Reply → Type 0
+IsSo m o (Answered word id answer) = IsUp m id o
+IsSo m o (Ticked id) = IsUp m id o
+IsSo m o (Pending id) = IsUp m id o
+IsSo m o (Started id) = IsUp m id o
 IsSo m o (Shown id b proof) = HasWorld (λ w. IsStored m w id b proof) o
 IsSo m o (Lied word sent) = HasWorld (λ w. IsLastSent m w sent) o
 IsSo m o (Sealed place) = HasWorld (λ w. IsLastSeal m w place) o
+IsSo m o (Cut id) = IsStill id o
 IsSo m o (Faulty config count bound) = bound < count
 IsSo m o _ = ⊤
 
 -- THE PARTS OF A TEXT
 
--- the facts of each event of a line, and its reply
+-- the events of a line, and its reply
 pub record Part : Type 0 where
-  pub events : List (List Fact)
+  pub events : List Happened
   pub reply : Reply
 
--- the block lines of these events
-abbrev pub blocks_text : ℕ → List (List Fact) → List ℕ
-blocks_text number events = flat_map (λ facts. flat_map (fact_text number) facts) events
+-- the block lines of an event that went through, and of one in which a node was stopped that alone
+abbrev pub event_text : ℕ → Happened → List ℕ
+event_text number (Went facts) = flat_map (fact_text number) facts
+event_text number (Stopped id facts) = stopped_text number id
+
+abbrev pub events_text : ℕ → List Happened → List ℕ
+events_text number events = flat_map (event_text number) events
 
 abbrev pub part_text : ℕ → Part → List ℕ
-part_text number part = blocks_text number part.events ++ reply_text number part.reply
+part_text number part = events_text number part.events ++ reply_text number part.reply
 
--- These are the worlds of a line that means this and began with this world: they have the histories of its events, and what its
--- reply tells is so in the last of them, or in the one with which it began where it has none.
+-- a node that was stopped in an event doesn't run in the world after it
+abbrev pub IsStopIn : Option PastWorld → Happened → Type 0
+IsStopIn o (Went facts) = ⊤
+IsStopIn o (Stopped id facts) = IsStill id o
+
+-- so it is with each event and the world after it
+abbrev pub AreStops : List (Option PastWorld) → List Happened → Type 0
+AreStops [] events = ⊤
+AreStops (o ∷ here) [] = ⊤
+AreStops (o ∷ here) (event ∷ events) = IsStopIn o event × AreStops here events
+
+-- These are the worlds of a line that means this and began with this world: they have the histories of its events, in each the node
+-- that its event stopped doesn't run, and what the line's reply tells is so in the last of them, or in the one with which it began
+-- where it has none.
 pub record IsPartOf (m : Meaning) (o : Option PastWorld) (here : List (Option PastWorld)) (part : Part) : Type 0 where
   pub histories : map told_in here ≡ histories_after (told_in o) part.events
+  pub stops : AreStops here part.events
   pub so : IsSo m (last_of o here) part.reply
 
 -- the parts behind a turn: none where it ended the run
@@ -182,10 +247,10 @@ BeginWith First next rest [] = ⊥
 BeginWith First next rest (part ∷ parts) = First part × AreLater next rest parts
 
 -- one part for each of these lines, up to the one that ends the run
-unfoldable pub AreParts : List (List ℕ) → Option PastWorld → ℕ → List Part → Type 0
-AreParts [] o number parts = parts ≡ []
-AreParts (line ∷ more) o number parts =
-    BeginWith (IsPartOf (meaning line) o (worlds_in_line o number line)) (line_turn (turn_of past_setting) o number line).next (λ next parts. AreParts more next (number + 1) parts) parts
+unfoldable pub AreParts : List Outcome → List (List ℕ) → Option PastWorld → ℕ → List Part → Type 0
+AreParts outcomes [] o number parts = parts ≡ []
+AreParts outcomes (line ∷ more) o number parts =
+    BeginWith (IsPartOf (meaning line) o (worlds_in_line outcomes o number line)) (line_turn (turn_of past_setting outcomes) o number line).next (λ next parts. AreParts outcomes more next (number + 1) parts) parts
 
 -- THE TEXT OF A SCRIPT
 
@@ -194,12 +259,12 @@ abbrev pub parts_text : ℕ → List Part → List ℕ
 parts_text number [] = []
 parts_text number (part ∷ parts) = part_text number part ++ parts_text (number + 1) parts
 
-abbrev pub events_of : List Part → List (List Fact)
+abbrev pub events_of : List Part → List Happened
 events_of parts = flat_map (λ (part : Part). part.events) parts
 
 -- in their order
-abbrev pub facts_of : List (List Fact) → List Fact
-facts_of events = flat_map (λ facts. facts) events
+abbrev pub facts_of : List Happened → List Fact
+facts_of events = flat_map facts_in events
 
 -- the closing lines, where the script was played to its end
 abbrev pub end_text : Ending → Option PastWorld → List ℕ
@@ -207,19 +272,20 @@ end_text Done o = closing_of past_setting o
 end_text _ o = []
 
 -- There is one world for each event, whose history grew by the facts of that event, so that the last world's history has
--- them all; and the text has the block lines of these facts, in their order, and no others: beside them only the replies
--- to the lines, and the closing lines of the last world. Each line has a part of its own, whose reply is so in the last of its worlds.
-pub record IsTold (script : List ℕ) : Type 0 where
+-- them all. The text has the block lines of the facts of the events that went through, in their order, and no others; each event in
+-- which a node was stopped has one line that tells this. Beside them stand only the replies to the lines, and the closing lines of the
+-- last world. Each line has a part of its own, whose reply is so in the last of its worlds.
+pub record IsTold (outcomes : List Outcome) (script : List ℕ) : Type 0 where
   pub parts : List Part
-  pub histories : map told_in (all_worlds_of [] script) ≡ [] ∷ histories_after [] (events_of parts)
-  pub last : told_in (last_of None (all_worlds_of [] script)) ≡ reverse (facts_of (events_of parts))
-  pub each : AreParts (lines script) None 1 parts
-  pub text : (run_of [] script).text ≡ parts_text 1 parts ++ end_text (run_of [] script).ending (last_of None (all_worlds_of [] script))
+  pub histories : map told_in (all_worlds_of outcomes script) ≡ [] ∷ histories_after [] (events_of parts)
+  pub last : told_in (last_of None (all_worlds_of outcomes script)) ≡ reverse (facts_of (events_of parts))
+  pub each : AreParts outcomes (lines script) None 1 parts
+  pub text : (run_of outcomes script).text ≡ parts_text 1 parts ++ end_text (run_of outcomes script).ending (last_of None (all_worlds_of outcomes script))
 
--- all worlds of every script are safe, not only those between its lines
+-- all worlds of every script are safe, not only those between its lines, for every list of outcomes
 abbrev pub AllWorldsAreSafe : Type 0
-AllWorldsAreSafe = (script : List ℕ) → AllByRecursion IsSafe (all_worlds_of [] script)
+AllWorldsAreSafe = (outcomes : List Outcome) (script : List ℕ) → AllByRecursion IsSafe (all_worlds_of outcomes script)
 
 -- and their histories tell the script's text
 abbrev pub EveryTextIsTold : Type 0
-EveryTextIsTold = (script : List ℕ) → IsTold script
+EveryTextIsTold = (outcomes : List Outcome) (script : List ℕ) → IsTold outcomes script

@@ -1,5 +1,5 @@
 -- The run of a script ends with too many Byzantine members exactly where its first genesis has them.
-use Rattle.std.specs.Prelude.{◌≡◌, ◌≤◌, ◌<◌, ℕ, ◌+◌, List, [], ◌∷◌, ◌++◌, length, ⊤}
+use Rattle.std.specs.Prelude.{◌≡◌, ◌≤◌, ◌<◌, ℕ, ◌+◌, List, ◌∷◌, ◌++◌, length, ⊤}
 use Rattle.std.specs.List.{AllByRecursion}
 use Rattle.ord_types.specs.Members.{fault_bound, how_many_in}
 use Rattle.line_flow.specs.Lines.{lines}
@@ -10,6 +10,7 @@ use Rattle.script.specs.declared.command.Meaning.TheVariants.{Nothing, Means, Wr
 use Rattle.script_play.specs.declared.ending.Ending.TheVariants.{TooManyFaulty}
 use Rattle.script_play.specs.Runs.{max_line, max_lines}
 use Rattle.world_model.specs.Histories.{run_of}
+use Rattle.world_model.specs.Worlds.{Outcome}
 
 -- nothing, or a command that begins no world
 abbrev pub BeginsNone : Meaning → Type 0
@@ -49,9 +50,9 @@ pub record HaveTooMany (ls : List (List ℕ)) (first number config count bound :
 -- the run of a script ends so there alone
 abbrev pub EndsOnlyWhereTooMany : Type 0
 EndsOnlyWhereTooMany =
-    (script : List ℕ) (number config count bound : ℕ) → (run_of [] script).ending ≡ TooManyFaulty number config count bound → HaveTooMany (lines script) 1 number config count bound
+    (outcomes : List Outcome) (script : List ℕ) (number config count bound : ℕ) → (run_of outcomes script).ending ≡ TooManyFaulty number config count bound → HaveTooMany (lines script) 1 number config count bound
 
 -- and wherever they do
 abbrev pub EndsWhereTooMany : Type 0
 EndsWhereTooMany =
-    (script : List ℕ) (number config count bound : ℕ) → HaveTooMany (lines script) 1 number config count bound → (run_of [] script).ending ≡ TooManyFaulty number config count bound
+    (outcomes : List Outcome) (script : List ℕ) (number config count bound : ℕ) → HaveTooMany (lines script) 1 number config count bound → (run_of outcomes script).ending ≡ TooManyFaulty number config count bound

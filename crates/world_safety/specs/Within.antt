@@ -1,5 +1,6 @@
--- All worlds that a script goes through: the one after each event of each line, that past the network's limit included.
-use Rattle.std.specs.Prelude.{ℕ, zero, suc, ◌+◌, ◌-◌, ◌&&◌, ◌==◌, nat_lt, List, [], ◌∷◌, ◌++◌, length, map, position, slice_get, Option, Some, None, if◌then◌else◌}
+-- All worlds that a script goes through: the one after each event of each line, that past the network's limit and those in which a node is stopped
+-- included. What becomes of the stops at calls of a node's disk is a list of outcomes.
+use Rattle.std.specs.Prelude.{ℕ, zero, suc, ◌+◌, ◌-◌, ◌&&◌, ◌==◌, nat_lt, not, List, [], ◌∷◌, ◌++◌, drop, length, map, position, slice_get, Option, Some, None, if◌then◌else◌}
 use Rattle.std.specs.List.{AllByRecursion, Contains}
 use Rattle.ord_types.specs.Members.{fault_bound, how_many_in, is_in}
 use Rattle.ord_types.specs.Spelling.{request_text}
@@ -8,7 +9,7 @@ use Rattle.safety_model.specs.Facts.{History}
 use Rattle.line_flow.specs.Lines.{lines}
 use Rattle.script.specs.Grammar.{meaning}
 use Rattle.script.specs.declared.command.Command.{Command}
-use Rattle.script.specs.declared.command.Command.TheVariants.{Genesis, Submit, Raw, Show, Tick, Deliver, Flush, Propose, Vote, Lie, Seal}
+use Rattle.script.specs.declared.command.Command.TheVariants.{Genesis, Submit, Raw, Show, Tick, Deliver, Flush, Propose, Vote, Lie, Seal, Stop, StopAt, Start}
 use Rattle.script.specs.declared.command.VoteKind.{VoteKind}
 use Rattle.script.specs.declared.command.VoteKind.TheVariants.{Prepare, Commit}
 use Rattle.script.specs.declared.command.Meaning.{Meaning}
@@ -21,30 +22,38 @@ use Rattle.bft_wire.specs.Spelling.{message_text}
 use Rattle.node_model.specs.Keeping.{PastNode, past_place}
 use Rattle.node_model.specs.Letters.{PrePrepare}
 use Rattle.node_model.specs.Steps.{Event}
-use Rattle.world_model.specs.Histories.{Outcome, past_setting, worlds_of}
-use Rattle.world_model.specs.Turns.{delivery, first_config, first_world, most_flushed, ordinary, submitted, tick_at, turn_of}
+use Rattle.world_model.specs.Histories.{past_setting, worlds_of}
+use Rattle.world_model.specs.Turns.{delivery, first_config, first_outcome, first_world, is_running, most_flushed, ordinary, submitted, tick_at, turn_of}
 use Rattle.world_model.specs.Liars.{commit_for, is_raft_if_any, longest, prepare_for, proposal_of, proposed_in, sig_at, statement_for, with_sent, with_signed}
-use Rattle.world_model.specs.Worlds.{Entry, Node, World, entry, is_waiting, letter_from, making, marked, node_at, tick_of, with_node, world_after}
+use Rattle.world_model.specs.Worlds.{Entry, Never, Node, Outcome, Reached, World, entry, is_waiting, letter_from, making, marked, node_at, node_started, running_at, tick_of, with_node, world_after, world_stopped, world_stopped_in}
 
 abbrev pub PastWorld : Type 0
 PastWorld = World PastNode History
 
--- AN EVENT leaves this world, whether the network is then within its limit or past it
+-- AN EVENT leaves this world, whether the network is then within its limit or past it, or one in which its node is stopped
+
+abbrev pub after_event_by : PastWorld → Node PastNode → Event → Outcome → PastWorld
+after_event_by w node event Never = world_after past_setting w node (making past_setting w node event)
+after_event_by w node event (Reached zero kept signed) = world_stopped_in past_setting w node event kept signed
+after_event_by w node event (Reached (suc n) kept signed) = world_after past_setting w node (making past_setting w node event)
 
 abbrev pub after_event : PastWorld → Node PastNode → Event → PastWorld
-after_event w node event = world_after past_setting w node (making past_setting w node event)
+after_event w node event = after_event_by w node event node.pending
 
 -- TICK
 
-abbrev pub after_tick : PastWorld → Option (Node PastNode) → PastWorld
-after_tick w None = w
-after_tick w (Some node) = after_event w node (tick_of past_setting.ways node)
+abbrev pub after_tick : PastWorld → Node PastNode → PastWorld
+after_tick w node = after_event w node (tick_of past_setting.returns.ways node)
 
--- one after each of n ticks, as far as they come
+-- the world after a tick of a node that runs, then the rest
+abbrev pub in_tick : ℕ → PastWorld → Option (Node PastNode) → (PastWorld → List PastWorld) → List PastWorld
+in_tick number w None rest = rest w
+in_tick number w (Some node) rest = after_tick w node ∷ worlds_after (tick_at past_setting number w (Some node)).next rest
+
+-- one after each of n ticks, as far as they come, as long as the node runs
 unfoldable pub in_ticks : ℕ → ℕ → ℕ → PastWorld → List PastWorld
 in_ticks number id zero w = []
-in_ticks number id (suc n) w =
-    after_tick w (node_at id w.nodes) ∷ worlds_after (tick_at past_setting number w (node_at id w.nodes)).next (λ next. in_ticks number id n next)
+in_ticks number id (suc n) w = in_tick number w (running_at id w.nodes) (λ next. in_ticks number id n next)
 
 -- DELIVER
 
@@ -52,9 +61,13 @@ abbrev pub after_letter : ℕ → Entry → PastWorld → Option (Node PastNode)
 after_letter k e w None = w
 after_letter k e w (Some node) = after_event (marked k e w) node (letter_from e)
 
--- the entry at place k, counted from 0, has come to its receiver, if it has one
+-- the entry at place k, counted from 0, has come to its receiver, if it has one that runs
 abbrev pub after_delivery : ℕ → Entry → PastWorld → PastWorld
-after_delivery k e w = after_letter k e w (node_at e.to w.nodes)
+after_delivery k e w = after_letter k e w (running_at e.to w.nodes)
+
+-- none where the receiver was stopped
+abbrev pub unless_cut : ℕ → PastWorld → PastWorld → List PastWorld → List PastWorld
+unless_cut id before after worlds = if is_running id before && not (is_running id after) then [] else worlds
 
 -- one after each of n entries from number k on, then the rest
 unfoldable pub in_deliveries : ℕ → ℕ → ℕ → PastWorld → (PastWorld → List PastWorld) → List PastWorld
@@ -62,7 +75,7 @@ in_deliveries number zero k w rest = rest w
 in_deliveries number (suc n) k w rest =
     elim (entry k w) [
       | None ↦ []
-      | Some e ↦ after_delivery (k - 1) e w ∷ worlds_after (delivery past_setting number (k - 1) e w).next (λ next. in_deliveries number n (k + 1) next rest)
+      | Some e ↦ after_delivery (k - 1) e w ∷ worlds_after (delivery past_setting number (k - 1) e w).next (λ next. unless_cut e.to w next (in_deliveries number n (k + 1) next rest))
     ]
 
 unfoldable pub in_deliver : ℕ → List Range → PastWorld → List PastWorld
@@ -85,6 +98,17 @@ in_flush number only (suc n) w = in_flushes number w (position (is_waiting w.nod
 
 abbrev pub after_submit : PastWorld → Node PastNode → List ℕ → PastWorld
 after_submit w node bytes = record w { nodes = with_node (submitted node bytes) w.nodes }
+
+-- STOP, STOP AT A CALL, START
+
+abbrev pub after_stop : PastWorld → Node PastNode → PastWorld
+after_stop w node = world_stopped past_setting w node [] []
+
+abbrev pub after_stop_at : PastWorld → Node PastNode → PastWorld
+after_stop_at w node = record w { nodes = with_node (record node { pending = first_outcome w.outcomes }) w.nodes; outcomes = drop 1 w.outcomes }
+
+abbrev pub after_start : PastWorld → Node PastNode → PastWorld
+after_start w node = record w { nodes = with_node (node_started node) w.nodes }
 
 -- WHAT A BYZANTINE MEMBER DOES: it sends, and it signs
 
@@ -117,10 +141,14 @@ after_lie w from to bytes = if is_raft_if_any (message_in bytes) then [] else wi
 
 -- A COMMAND
 
--- a line about a node that is nowhere in the world has no event
+-- a line about a node that is nowhere in the world has no event, nor has one about a stopped node, but to start it
 abbrev pub where_node : Option (Node PastNode) → (Node PastNode → List PastWorld) → List PastWorld
 where_node None worlds = []
-where_node (Some node) worlds = worlds node
+where_node (Some node) worlds = if node.runs then worlds node else []
+
+abbrev pub where_stopped : Option (Node PastNode) → (Node PastNode → List PastWorld) → List PastWorld
+where_stopped None worlds = []
+where_stopped (Some node) worlds = if node.runs then [] else worlds node
 
 abbrev pub worlds_in : ℕ → PastWorld → Command → List PastWorld
 worlds_in number w (Genesis members byzantine) = []
@@ -131,6 +159,9 @@ worlds_in number w (Show id block) = []
 worlds_in number w (Tick id count) = where_node (node_at id w.nodes) (λ node. in_ticks number id count w)
 worlds_in number w (Deliver ranges) = in_deliver number ranges w
 worlds_in number w (Flush only) = in_flush number only most_flushed w
+worlds_in number w (Stop id image) = where_node (node_at id w.nodes) (λ node. after_stop w node ∷ [])
+worlds_in number w (StopAt id call image) = where_node (node_at id w.nodes) (λ node. after_stop_at w node ∷ [])
+worlds_in number w (Start id) = where_stopped (node_at id w.nodes) (λ node. after_start w node ∷ [])
 worlds_in number w (Propose from to view client serial payload) =
     where_liar w from to (after_propose w from to view (ordinary client serial payload) (longest w.nodes))
 worlds_in number w (Vote from to kind view k) = where_liar w from to (after_vote_on w from to kind view (entry k w))
@@ -138,38 +169,38 @@ worlds_in number w (Lie from to bytes) = where_liar w from to (after_lie w from 
 worlds_in number w (Seal id bytes) = where_signer w id (with_signed w id bytes ∷ [])
 
 -- where there may be no world yet
-abbrev pub worlds_in_turn : Option PastWorld → ℕ → Command → List (Option PastWorld)
-worlds_in_turn None number (Genesis members byzantine) =
+abbrev pub worlds_in_turn : List Outcome → Option PastWorld → ℕ → Command → List (Option PastWorld)
+worlds_in_turn outcomes None number (Genesis members byzantine) =
     if nat_lt (fault_bound (length members)) (how_many_in byzantine members) then []
-    else Some (first_world past_setting (first_config members) byzantine) ∷ []
-worlds_in_turn None number _ = []
-worlds_in_turn (Some w) number command = map Some (worlds_in number w command)
+    else Some (first_world past_setting outcomes (first_config members) byzantine) ∷ []
+worlds_in_turn outcomes None number _ = []
+worlds_in_turn outcomes (Some w) number command = map Some (worlds_in number w command)
 
 -- A LINE
 
-abbrev pub worlds_said : Option PastWorld → ℕ → Meaning → List (Option PastWorld)
-worlds_said o number Nothing = []
-worlds_said o number (Means command) = worlds_in_turn o number command
-worlds_said o number (Wrong stop) = []
+abbrev pub worlds_said : List Outcome → Option PastWorld → ℕ → Meaning → List (Option PastWorld)
+worlds_said outcomes o number Nothing = []
+worlds_said outcomes o number (Means command) = worlds_in_turn outcomes o number command
+worlds_said outcomes o number (Wrong stop) = []
 
-unfoldable pub worlds_in_line : Option PastWorld → ℕ → List ℕ → List (Option PastWorld)
-worlds_in_line o number line =
+unfoldable pub worlds_in_line : List Outcome → Option PastWorld → ℕ → List ℕ → List (Option PastWorld)
+worlds_in_line outcomes o number line =
     if nat_lt max_lines number then []
     else (if nat_lt max_line (length line) then []
-    else worlds_said o number (meaning line))
+    else worlds_said outcomes o number (meaning line))
 
 -- A SCRIPT
 
 -- the world after each event of these lines, of which the first has this number
-unfoldable pub worlds_in_lines : List (List ℕ) → Option PastWorld → ℕ → List (Option PastWorld)
-worlds_in_lines [] o number = []
-worlds_in_lines (line ∷ more) o number =
-    worlds_in_line o number line ++ worlds_after (line_turn (turn_of past_setting) o number line).next (λ next. worlds_in_lines more next (number + 1))
+unfoldable pub worlds_in_lines : List Outcome → List (List ℕ) → Option PastWorld → ℕ → List (Option PastWorld)
+worlds_in_lines outcomes [] o number = []
+worlds_in_lines outcomes (line ∷ more) o number =
+    worlds_in_line outcomes o number line ++ worlds_after (line_turn (turn_of past_setting outcomes) o number line).next (λ next. worlds_in_lines outcomes more next (number + 1))
 
 -- none at first, and then the world after each event
 abbrev pub all_worlds_of : List Outcome → List ℕ → List (Option PastWorld)
-all_worlds_of outcomes script = None ∷ worlds_in_lines (lines script) None 1
+all_worlds_of outcomes script = None ∷ worlds_in_lines outcomes (lines script) None 1
 
 -- those before the lines, and the last one, are among them
 abbrev pub WorldsAreAmongAll : Type 0
-WorldsAreAmongAll = (script : List ℕ) → AllByRecursion (Contains (all_worlds_of [] script)) (worlds_of [] script)
+WorldsAreAmongAll = (outcomes : List Outcome) (script : List ℕ) → AllByRecursion (Contains (all_worlds_of outcomes script)) (worlds_of outcomes script)

@@ -7,18 +7,20 @@ ghost use Rattle.world_safety.specs.Telling.{AllWorldsAreSafe, EveryTextIsTold};
 ghost use Rattle.world_safety.specs.TooMany.{EndsOnlyWhereTooMany, EndsWhereTooMany};
 ghost use Rattle.world_safety.specs.Within.{WorldsAreAmongAll};
 
-/// In every world of every script what the nodes did is a run by the rules. The nodes are the members that aren't
-/// Byzantine, and no more are Byzantine than the bound of the configuration. Members send to members. The bytes of
-/// whatever a node sent spell a message that rests on a fact of its sender; a Byzantine member sent any bytes but a message
-/// of Raft. Each seal in the world's box is the administrator's, a Byzantine member's, or a node's on the commit statement
-/// of a preparation of its own; so a node's signature that the box accepts on a commit statement rests on its preparation of
-/// the digest. Each node has stored what it delivered, and, where no two texts collide, the ledgers agree. All this holds in
-/// the worlds between a script's lines, and in all its worlds, the one after each event of a line, also where that event ends
-/// the run at the network's limit; what a Byzantine member sends or signs is an event too. The block lines of the text are
-/// those of the facts by which these worlds' histories grew. What a line's reply tells of a block that is shown, of an entry
-/// or a seal of a Byzantine member, or of too many Byzantine members, is so in the last world of that line. The proof of each
-/// delivered block is a certificate whose signatures stand in the world's box of seals: at least a quorum of members signed
-/// the block's number and hash in one view. A law about the model; it does nothing.
+/// In every world of every script, whatever becomes of its stops at calls of a node's disk, what the nodes did is a run by the
+/// rules. The nodes are the members that aren't Byzantine, and no more are Byzantine than the bound of the configuration. Members
+/// send to members. The bytes of whatever a node sent, also again after it was started, spell a message that rests on a fact of its
+/// sender; a Byzantine member sent any bytes but a message of Raft. Each seal in the world's box is the administrator's, a
+/// Byzantine member's, or a node's on the commit statement of a preparation of its own that stands, also where the node was
+/// stopped in the event; so a node's signature that the box accepts on a commit statement rests on its preparation of the digest.
+/// Each node, running or stopped, has stored what it delivered, and, where no two texts collide, the ledgers agree. All this holds
+/// in the worlds between a script's lines, and in all its worlds, the one after each event of a line, also where that event ends
+/// the run at the network's limit or its node is stopped in it; what a Byzantine member sends or signs is an event too. The block
+/// lines of the text are those of the facts by which these worlds' histories grew in the events that went through; an event in which
+/// a node was stopped has a line that tells this alone, and the node doesn't run in the world after it. What a line's reply tells of
+/// its node, of a block that is shown, of an entry or a seal of a Byzantine member, or of too many Byzantine members, is so in the
+/// last world of that line. The proof of each delivered block is a certificate whose signatures stand in the world's box of seals:
+/// at least a quorum of members signed the block's number and hash in one view. A law about the model; it does nothing.
 #[tactic(auto, using(crate::proofs::Within::worlds_safe, crate::proofs::Within::all_worlds_safe, crate::proofs::Among::worlds_among, crate::proofs::Telling::every_text_told, crate::proofs::Within::all_worlds_certified))]
 pub fn every_world_is_a_run()
     ensures between_lines { EveryWorldIsSafe }
