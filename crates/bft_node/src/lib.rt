@@ -1,12 +1,24 @@
-//! What a node holds durable: its ledger and its log over one disk, and what an opening makes of them.
+//! A node: what it holds durable, its ledger and its log over one disk, what an opening makes of them, and its steps.
 #![tactic(auto)]
 
+mod acts;
+mod events;
 mod fault;
 #[cfg(test)]
 mod fixtures;
+mod keeping;
 mod laws;
+mod live;
+mod member;
+mod node;
+mod node_fault;
 mod open;
+mod repeats;
 mod resume;
+mod sending;
+mod spelled;
+#[cfg(test)]
+mod step_tests;
 mod store;
 #[cfg(test)]
 mod tests;
@@ -14,4 +26,7 @@ mod write;
 
 pub use fault::{OpenFault, StoreFault};
 pub use laws::{deeds_are_found, stored_deeds_stand};
+pub use live::{Done, Event, Out, Post, Setup};
+pub use member::Node;
+pub use node_fault::NodeFault;
 pub use store::Store;
