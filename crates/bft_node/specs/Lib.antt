@@ -3,6 +3,7 @@ pub mod Crashes
 pub mod Held
 pub mod Keeping
 pub mod Laws
+pub mod Lodgings
 pub mod Making
 pub mod NodeFaults
 pub mod NodeOpenings

@@ -1,5 +1,5 @@
 -- The nodes of one world with their disks, and what an opening and a step make of one.
-use Rattle.std.specs.Prelude.{◌≡◌, ◌≢◌, ◌↔◌, ℕ, false, true, List, [], map, Option, Some, None, Result, Ok, Err, is_err, option_map}
+use Rattle.std.specs.Prelude.{◌≡◌, ◌≢◌, ◌↔◌, ℕ, false, true, List, [], Option, Some, None, Result, Ok, Err, is_err, OnOk}
 use Rattle.gate_log.specs.Arms.{armed}
 use Rattle.gate_log.specs.Disk.{now}
 use Rattle.gate_log.specs.History.{states}
@@ -8,10 +8,10 @@ use Rattle.gate_log.specs.declared.image.Image.{Image}
 use Rattle.gate_log.specs.declared.memory.MemDisk.{MemDisk}
 use Rattle.signer_edge.specs.Accepts.{Accepts}
 use Rattle.signer_edge.specs.Seals.{Seat, SealsOne, is_sealed}
-use Rattle.block_ledger.specs.Chains.{Entry, IsChain}
+use Rattle.block_ledger.specs.Chains.{IsChain}
 use Rattle.node_model.specs.Steps.{Keys}
 use Rattle.bft_node.specs.NodeFaults.{HasNodeCause, counts}
-use Rattle.bft_node.specs.NodeSteps.{Steps, StepsWithin}
+use Rattle.bft_node.specs.NodeSteps.{TakesStep}
 use Rattle.bft_node.specs.Returning.{opened}
 use Rattle.bft_node.specs.Running.{event_of, state_of}
 use Rattle.bft_node.specs.Signings.{Grows, KeysFit, Signs, keys_after, statements_in}
@@ -44,11 +44,13 @@ accepts_of seat = is_sealed seat.seals
 -- A node as it is opened on what this disk holds.
 pub record IsOpenedOn (setup : Setup) (accepts : Accepts) (disk : MemDisk) (l : Lodged) : Type 0 where
   pub runs : l.node.closed ≡ false
+  pub id : l.node.running.id ≡ setup.me
   pub config : config_of l.node.running.store ≡ setup.genesis
   pub chain : IsChain accepts setup.genesis (held_of l.node.running.store).blocks
   pub state : state_of l.node.running ≡ opened setup.genesis setup.me (held_of l.node.running.store)
   pub value : OpensTo accepts setup.genesis (now (states disk.history)) (Ok l.node.running.store)
   pub any_moment : Went (StaysOpen accepts setup.genesis (now (states disk.history))) (states disk.history) (states l.disk.history)
+  pub kept : IsKept l.node.running.store (now (states l.disk.history))
 
 -- what `add` comes to: the node stands under its id, or the first fault is told
 abbrev pub Adds : Lodging → Lodging → Setup → Accepts → MemDisk → Result (Unit {0}) OpenFault → Type 0
@@ -58,8 +60,10 @@ Adds before after setup accepts disk (Err fault) = StaysAlike before after × Op
 -- One step of a node over its disk, by keys of the definition that say what the box did.
 pub record IsStepOf (old new : Lodged) (event : Event) (before after : Seat) (result : Result Out NodeFault) : Type 0 where
   pub step : old.node.closed ≡ false → Signs SealsOne result before after (λ signings. (model : Keys) → KeysFit accepts_of model [] before signings → Grows accepts_of before signings
-      → Steps model old.node.running new.node.running (event_of event) (statements_in signings) result
-      × StepsWithin model old.node.running (event_of event) (accepts_of before) (accepts_of (keys_after before signings)) true (states old.disk.history) (states new.disk.history))
+      → TakesStep model old.node.running new.node.running (event_of event) (statements_in signings) (accepts_of before) (accepts_of (keys_after before signings)) result true (states old.disk.history) (states new.disk.history))
+  pub kept : OnOk result (IsKept new.node.running.store (now (states new.disk.history)))
+  pub id : OnOk result (new.node.running.id ≡ old.node.running.id)
+  pub config : OnOk result (config_of new.node.running.store ≡ config_of old.node.running.store)
   pub closed : (result ≡ Err fault_of.Closed) ↔ (old.node.closed ≡ true)
   pub nothing : old.node.closed ≡ true → (new.disk ≡ old.disk) × (after ≡ before)
   pub closes : new.node.closed ≡ is_err result

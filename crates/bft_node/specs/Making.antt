@@ -1,9 +1,9 @@
 -- What a step of a node has made so far, in the code and by its definition.
-use Rattle.std.specs.Prelude.{◌≡◌, ℕ, Bool, List, [], ◌∷◌, ◌++◌, map, Option, Some, None, Result, Ok, Err, IsTrue}
-use Rattle.std.specs.List.{flat_map}
+use Rattle.std.specs.Prelude.{◌≡◌, ℕ, suc, ◌+◌, ◌≤◌, Bool, true, false, List, [], ◌∷◌, ◌++◌, length, take, drop, map, Option, Some, None, Result, Ok, Err, IsTrue}
+use Rattle.std.specs.List.{count_by, flat_map}
 use Rattle.ord_types.specs.declared.values.Config.{Config}
 use Rattle.ord_types.specs.declared.values.Place.{Place}
-use Rattle.gate_log.specs.Disk.{State}
+use Rattle.gate_log.specs.Disk.{State, now}
 use Rattle.gate_log.specs.Runs.{Went}
 use Rattle.safety_model.specs.declared.fact.Fact.{Fact}
 use Rattle.safety_model.specs.declared.fact.Fact.TheVariants as fact_of
@@ -16,18 +16,20 @@ use Rattle.node_model.specs.declared.act.Act.{Act}
 use Rattle.node_model.specs.declared.act.Act.TheVariants as act_of
 use Rattle.node_model.specs.Acts.{View, acceptance_due, preparation_due, due, deliver_act, delivery_due}
 use Rattle.node_model.specs.Answers.{after_act}
-use Rattle.node_model.specs.Deeds.{Logged, logged}
+use Rattle.node_model.specs.Deeds.{Deed, Accepts as Accepted, Prepares, Delivers, Logged, logged}
 use Rattle.node_model.specs.Restarts.{Found, Returned, Returns, returned_returns}
 use Rattle.node_model.specs.Steps as steps
 use Rattle.node_model.specs.Steps.{Keys, Making, Ways, accept_round, prepare_round}
-use Rattle.bft_node.specs.Crashes.{Within}
+use Rattle.bft_node.specs.Crashes.{Image, IsCrash, Opens, Within}
 use Rattle.bft_node.specs.Held.{Held, with_deeds}
 use Rattle.bft_node.specs.Running.{as_found, place_of}
+use Rattle.bft_node.specs.NodeFaults.{HasLimit}
 use Rattle.bft_node.specs.Stores.{config_of, held_of}
 use Rattle.bft_node.specs.declared.live.Done.{Done}
 use Rattle.bft_node.specs.declared.live.Out.{Out}
 use Rattle.bft_node.specs.declared.live.Post.{Post}
 use Rattle.bft_node.specs.declared.live.Running.{Running}
+use Rattle.bft_node.specs.declared.node_fault.NodeFault.{NodeFault}
 
 -- A STEP BY ITS DEFINITION, with its deeds
 
@@ -121,15 +123,44 @@ pub record Makes (b : Before) (m : Step) (told : Act) (r : Running) (a : Around)
 abbrev pub IsFront : {A : Type 0} → List A → List A → Type 0
 IsFront {A} xs ys = (rest : List A) × (xs ++ rest ≡ ys)
 
+-- A STEP THAT WAS GIVEN UP
+
+abbrev pub is_preparation : Deed → Bool
+is_preparation (Prepares i e v s d) = true
+is_preparation (Accepted i e v s b) = false
+is_preparation (Delivers i b cert) = false
+
+-- Where so many of a step's deeds are kept, these are the first of its signatures: none on a preparation that isn't kept, and all that were
+-- made before the last kept deed.
+pub record IsMade (kept : ℕ) (deeds : List Deed) (all signed : List (List ℕ)) : Type 0 where
+  pub first : IsFront signed all
+  pub rests : length signed + count_by is_preparation (drop kept deeds) ≤ length all
+  pub follows : (k : ℕ) → kept ≡ suc k → length all ≤ length signed + count_by is_preparation (drop k deeds)
+
+-- It opens to what the first of these deeds leave, and these signatures were made.
+pub record OpensMade (accepts : Accepts) (c : Config) (deeds : List Deed) (held : Held) (all signed : List (List ℕ)) (image : Image) : Type 0 where
+  pub kept : ℕ
+  pub some : kept ≤ length deeds
+  pub opens : Opens accepts c image (with_deeds (take kept deeds) held)
+  pub made : IsMade kept deeds all signed
+
+-- Every crash of what is left opens so, for every judge who accepts at least this.
+abbrev pub LeavesMade : Before → Step → List (List ℕ) → Accepts → Bool → List State → Type 0
+LeavesMade b m signed accepts tells moments =
+    BeganOnChain b → (judge : Accepts) → KeepsAccepted accepts judge → IsTrue tells
+    → (image : Image) → IsCrash (now moments) image → OpensMade judge b.config m.state.deeds b.held m.signed signed image
+
 -- A step that is to make this was given up, with these statements signed, and this accepted after them: nothing else was done.
-pub record IsStopped (b : Before) (m : Step) (signed : List (List ℕ)) (accepts : Accepts) (tells : Bool) (moments : List State) : Type 0 where
+pub record IsStopped (b : Before) (m : Step) (signed : List (List ℕ)) (accepts : Accepts) (tells : Bool) (moments : List State) (fault : NodeFault) : Type 0 where
   pub went : GoesWithin b m accepts tells moments
+  pub left : LeavesMade b m signed accepts tells moments
   pub signed_first : IsFront signed m.signed
+  pub limit : HasLimit b.held m.state.deeds fault
 
 -- what follows for an Ok, and what for any failure
-abbrev pub GoesOn : {T E : Type 0} → Result T E → (T → Type 0) → Type 0 → Type 0
+abbrev pub GoesOn : {T E : Type 0} → Result T E → (T → Type 0) → (E → Type 0) → Type 0
 GoesOn (Ok x) P Q = P x
-GoesOn (Err fault) P Q = Q
+GoesOn (Err fault) P Q = Q fault
 
 -- WHAT IS DUE
 

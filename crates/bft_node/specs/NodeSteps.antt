@@ -1,7 +1,7 @@
 -- What a step of a node answers and leaves.
 use Rattle.std.specs.Prelude.{◌≡◌, ℕ, Bool, true, List, [], map, IsTrue, Result, Ok, Err}
 use Rattle.std.specs.List.{flat_map}
-use Rattle.gate_log.specs.Disk.{State}
+use Rattle.gate_log.specs.Disk.{State, now}
 use Rattle.gate_log.specs.Runs.{Went}
 use Rattle.signer_edge.specs.Accepts.{Accepts}
 use Rattle.signer_edge.specs.Signing.{KeepsAccepted}
@@ -9,9 +9,10 @@ use Rattle.block_ledger.specs.Chains.{IsChain}
 use Rattle.node_model.specs.Deeds.{deeds_of, unlogged}
 use Rattle.node_model.specs.Restarts.{returned_returns, step}
 use Rattle.node_model.specs.Steps.{Event, Keys}
-use Rattle.bft_node.specs.Crashes.{Within}
+use Rattle.bft_node.specs.Crashes.{Image, IsCrash, Within}
 use Rattle.bft_node.specs.Held.{with_deeds}
-use Rattle.bft_node.specs.Making.{IsFront, Step, done_by, node_returns, sent_of, text_of}
+use Rattle.bft_node.specs.Making.{IsFront, OpensMade, Step, done_by, node_returns, sent_of, text_of}
+use Rattle.bft_node.specs.NodeFaults.{HasLimit}
 use Rattle.bft_node.specs.Running.{state_of}
 use Rattle.bft_node.specs.Stores.{config_of, held_of}
 use Rattle.bft_node.specs.declared.node_fault.NodeFault.{NodeFault}
@@ -42,3 +43,29 @@ abbrev pub StepsWithin : Keys → Running → Event → Accepts → Accepts → 
 StepsWithin keys old event first accepts tells before after =
     IsChain first (config_of old.store) (held_of old.store).blocks → (judge : Accepts) → KeepsAccepted accepts judge → IsTrue tells
     → Went (Within judge (config_of old.store) (deeds_of returned_returns keys (state_of old) event) (held_of old.store)) before after
+
+-- And every crash after the step, whatever it answered, opens to what a front of its deeds leaves that has each deed on which a signature
+-- made in it rests.
+abbrev pub StepsLeave : Keys → Running → Event → List (List ℕ) → Accepts → Accepts → Bool → List State → Type 0
+StepsLeave keys old event signed first accepts tells after =
+    IsChain first (config_of old.store) (held_of old.store).blocks → (judge : Accepts) → KeepsAccepted accepts judge → IsTrue tells
+    → (image : Image) → IsCrash (now after) image
+    → OpensMade judge (config_of old.store) (deeds_of returned_returns keys (state_of old) event) (held_of old.store) (step_from keys old event).signed signed image
+
+-- the blocks are a chain after it as they were before it
+abbrev pub StepsOnChain : Running → Running → Accepts → Accepts → Result Out NodeFault → Type 0
+StepsOnChain old new first accepts (Ok out) = IsChain first (config_of old.store) (held_of old.store).blocks → IsChain accepts (config_of old.store) (held_of new.store).blocks
+StepsOnChain old new first accepts (Err fault) = Unit {0}
+
+-- the number or the length that a step needed, where that is told
+abbrev pub StepsLimit : Keys → Running → Event → Result Out NodeFault → Type 0
+StepsLimit keys old event (Ok out) = Unit {0}
+StepsLimit keys old event (Err fault) = HasLimit (held_of old.store) (deeds_of returned_returns keys (state_of old) event) fault
+
+-- WHAT A STEP DOES: its answer, and what it leaves at each moment and at its end.
+pub record TakesStep (keys : Keys) (old new : Running) (event : Event) (signed : List (List ℕ)) (first accepts : Accepts) (result : Result Out NodeFault) (tells : Bool) (before after : List State) : Type 0 where
+  pub steps : Steps keys old new event signed result
+  pub within : StepsWithin keys old event first accepts tells before after
+  pub leaves : StepsLeave keys old event signed first accepts tells after
+  pub chain : StepsOnChain old new first accepts result
+  pub limit : StepsLimit keys old event result

@@ -42,7 +42,7 @@ impl Running {
         requires { IsReady (D.tells disk.old) (D.moments disk.old) self.old }
         ensures ready { OnOk result (IsReady (D.tells disk.new) (D.moments disk.new) self.new) }
         ensures fits { IfOk result FitsAct }
-        ensures makes { (b : Before) (m : Step) → Makes b m (act_of.Accept block) self.old (around (V.accepts keys.now) (D.tells disk.old) (D.moments disk.old) out.old) → GoesOn result (λ told. Tells b (makes_accepted node_ways block [] m) told self.new (around (V.accepts keys.now) (D.tells disk.new) (D.moments disk.new) out.new)) (IsStopped b (makes_accepted node_ways block [] m) m.signed (V.accepts keys.now) (D.tells disk.old) (D.moments disk.new)) }
+        ensures makes { (b : Before) (m : Step) → Makes b m (act_of.Accept block) self.old (around (V.accepts keys.now) (D.tells disk.old) (D.moments disk.old) out.old) → GoesOn result (λ told. Tells b (makes_accepted node_ways block [] m) told self.new (around (V.accepts keys.now) (D.tells disk.new) (D.moments disk.new) out.new)) (λ fault. IsStopped b (makes_accepted node_ways block [] m) m.signed (V.accepts keys.now) (D.tells disk.old) (D.moments disk.new) fault) }
         ensures tells { D.tells disk.new ≡ D.tells disk.old }
         ensures later { D.faults disk.old ≤ D.faults disk.new }
         ensures cause { HasNodeCause (counts (D.faults disk.old) 0) (counts (D.faults disk.new) 0) result }
@@ -56,7 +56,7 @@ impl Running {
     /// Signs the Commit of the digest where the node stands.
     fn signed_commit<K: Signer>(&self, digest: Digest, keys: &mut K) -> Result<Commit, NodeFault>
         ensures fits { IfOk result (λ commit. FitsSig commit.sig) }
-        ensures signs { Signs K.sign_gives result keys.old keys.new (λ signings. GoesOn result (λ commit. (commit ≡ commit_at self.now digest commit.sig) × (signings ≡ record { statement = statement_at self.now digest; sig = commit.sig; keys = keys.new } ∷ [])) (signings ≡ [])) }
+        ensures signs { Signs K.sign_gives result keys.old keys.new (λ signings. GoesOn result (λ commit. (commit ≡ commit_at self.now digest commit.sig) × (signings ≡ record { statement = statement_at self.now digest; sig = commit.sig; keys = keys.new } ∷ [])) (λ _. signings ≡ [])) }
         ensures later { K.faults keys.old ≤ K.faults keys.new }
         ensures cause { HasNodeCause (counts 0 (K.faults keys.old)) (counts 0 (K.faults keys.new)) result }
     {
@@ -87,7 +87,7 @@ impl Running {
         ensures sound { IsSound self.new }
         ensures ready { (tells : Bool) (moments : Items State) → IsReady tells moments self.old → IsReady tells moments self.new }
         ensures fits { IfOk result FitsAct }
-        ensures signs { Signs K.sign_gives result keys.old keys.new (λ signings. GoesOn result (λ told. Commits digest told self.old self.new (K.accepts keys.new) keys.new signings out.old out.new) (SignsAtMost (statement_at self.old digest) signings)) }
+        ensures signs { Signs K.sign_gives result keys.old keys.new (λ signings. GoesOn result (λ told. Commits digest told self.old self.new (K.accepts keys.new) keys.new signings out.old out.new) (λ _. SignsAtMost (statement_at self.old digest) signings)) }
         ensures later { K.faults keys.old ≤ K.faults keys.new }
         ensures cause { HasNodeCause (counts 0 (K.faults keys.old)) (counts 0 (K.faults keys.new)) result }
     {
@@ -110,7 +110,7 @@ impl Running {
         requires { IsReady (D.tells disk.old) (D.moments disk.old) self.old }
         ensures ready { OnOk result (IsReady (D.tells disk.new) (D.moments disk.new) self.new) }
         ensures fits { IfOk result FitsAct }
-        ensures makes { Signs K.sign_gives result keys.old keys.new (λ signings. (b : Before) (m : Step) → KeysFit K.accepts b.keys m.signed keys.old signings → Grows K.accepts keys.old signings → Makes b m (act_of.Prepare digest) self.old (around (K.accepts keys.old) (D.tells disk.old) (D.moments disk.old) out.old) → GoesOn result (λ told. Tells b (makes_prepared node_ways b.keys digest m) told self.new (around (K.accepts keys.new) (D.tells disk.new) (D.moments disk.new) out.new)) (IsStopped b (makes_prepared node_ways b.keys digest m) (m.signed ++ statements_in signings) (K.accepts (keys_after keys.old signings)) (D.tells disk.old) (D.moments disk.new))) }
+        ensures makes { Signs K.sign_gives result keys.old keys.new (λ signings. (b : Before) (m : Step) → KeysFit K.accepts b.keys m.signed keys.old signings → Grows K.accepts keys.old signings → Makes b m (act_of.Prepare digest) self.old (around (K.accepts keys.old) (D.tells disk.old) (D.moments disk.old) out.old) → GoesOn result (λ told. Tells b (makes_prepared node_ways b.keys digest m) told self.new (around (K.accepts keys.new) (D.tells disk.new) (D.moments disk.new) out.new)) (λ fault. IsStopped b (makes_prepared node_ways b.keys digest m) (m.signed ++ statements_in signings) (K.accepts (keys_after keys.old signings)) (D.tells disk.old) (D.moments disk.new) fault)) }
         ensures tells { D.tells disk.new ≡ D.tells disk.old }
         ensures later { (D.faults disk.old ≤ D.faults disk.new) × (K.faults keys.old ≤ K.faults keys.new) }
         ensures cause { HasNodeCause (counts (D.faults disk.old) (K.faults keys.old)) (counts (D.faults disk.new) (K.faults keys.new)) result }
@@ -130,7 +130,7 @@ impl Running {
     ) -> Result<(), NodeFault>
         requires { IsReady (D.tells disk.old) (D.moments disk.old) self.old }
         ensures ready { OnOk result (IsReady (D.tells disk.new) (D.moments disk.new) self.new) }
-        ensures makes { (b : Before) (m : Step) → Makes b m (act_of.Deliver block cert) self.old (around (V.accepts keys.now) (D.tells disk.old) (D.moments disk.old) out.old) → GoesOn result (λ _. Makes b (makes_delivered node_ways block cert m) act_of.Kept self.new (around (V.accepts keys.now) (D.tells disk.new) (D.moments disk.new) out.new)) (IsStopped b (makes_delivered node_ways block cert m) m.signed (V.accepts keys.now) (D.tells disk.old) (D.moments disk.new)) }
+        ensures makes { (b : Before) (m : Step) → Makes b m (act_of.Deliver block cert) self.old (around (V.accepts keys.now) (D.tells disk.old) (D.moments disk.old) out.old) → GoesOn result (λ _. Makes b (makes_delivered node_ways block cert m) act_of.Kept self.new (around (V.accepts keys.now) (D.tells disk.new) (D.moments disk.new) out.new)) (λ fault. IsStopped b (makes_delivered node_ways block cert m) m.signed (V.accepts keys.now) (D.tells disk.old) (D.moments disk.new) fault) }
         ensures tells { D.tells disk.new ≡ D.tells disk.old }
         ensures later { D.faults disk.old ≤ D.faults disk.new }
         ensures cause { HasNodeCause (counts (D.faults disk.old) 0) (counts (D.faults disk.new) 0) result }
@@ -152,7 +152,7 @@ impl Running {
         requires fits { FitsAct told }
         ensures ready { OnOk result (IsReady (D.tells disk.new) (D.moments disk.new) self.new) }
         ensures fits { IfOk result FitsAct }
-        ensures makes { (b : Before) (m : Step) → Tells b m told self.old (around (V.accepts keys.now) (D.tells disk.old) (D.moments disk.old) out.old) → GoesOn result (λ next. Tells b (accepted_in b m) next self.new (around (V.accepts keys.now) (D.tells disk.new) (D.moments disk.new) out.new)) (IsStopped b (accepted_in b m) m.signed (V.accepts keys.now) (D.tells disk.old) (D.moments disk.new)) }
+        ensures makes { (b : Before) (m : Step) → Tells b m told self.old (around (V.accepts keys.now) (D.tells disk.old) (D.moments disk.old) out.old) → GoesOn result (λ next. Tells b (accepted_in b m) next self.new (around (V.accepts keys.now) (D.tells disk.new) (D.moments disk.new) out.new)) (λ fault. IsStopped b (accepted_in b m) m.signed (V.accepts keys.now) (D.tells disk.old) (D.moments disk.new) fault) }
         ensures tells { D.tells disk.new ≡ D.tells disk.old }
         ensures later { D.faults disk.old ≤ D.faults disk.new }
         ensures cause { HasNodeCause (counts (D.faults disk.old) 0) (counts (D.faults disk.new) 0) result }
@@ -175,7 +175,7 @@ impl Running {
         requires fits { FitsAct told }
         ensures ready { OnOk result (IsReady (D.tells disk.new) (D.moments disk.new) self.new) }
         ensures fits { IfOk result FitsAct }
-        ensures makes { Signs K.sign_gives result keys.old keys.new (λ signings. (b : Before) (m : Step) → KeysFit K.accepts b.keys m.signed keys.old signings → Grows K.accepts keys.old signings → Tells b m told self.old (around (K.accepts keys.old) (D.tells disk.old) (D.moments disk.old) out.old) → HasNoneToAccept b m → GoesOn result (λ next. Ends b (prepared_in b m) next self.new (around (K.accepts keys.new) (D.tells disk.new) (D.moments disk.new) out.new)) (IsStopped b (prepared_in b m) (m.signed ++ statements_in signings) (K.accepts (keys_after keys.old signings)) (D.tells disk.old) (D.moments disk.new))) }
+        ensures makes { Signs K.sign_gives result keys.old keys.new (λ signings. (b : Before) (m : Step) → KeysFit K.accepts b.keys m.signed keys.old signings → Grows K.accepts keys.old signings → Tells b m told self.old (around (K.accepts keys.old) (D.tells disk.old) (D.moments disk.old) out.old) → HasNoneToAccept b m → GoesOn result (λ next. Ends b (prepared_in b m) next self.new (around (K.accepts keys.new) (D.tells disk.new) (D.moments disk.new) out.new)) (λ fault. IsStopped b (prepared_in b m) (m.signed ++ statements_in signings) (K.accepts (keys_after keys.old signings)) (D.tells disk.old) (D.moments disk.new) fault)) }
         ensures tells { D.tells disk.new ≡ D.tells disk.old }
         ensures later { (D.faults disk.old ≤ D.faults disk.new) × (K.faults keys.old ≤ K.faults keys.new) }
         ensures cause { HasNodeCause (counts (D.faults disk.old) (K.faults keys.old)) (counts (D.faults disk.new) (K.faults keys.new)) result }
@@ -198,7 +198,7 @@ impl Running {
         requires fits { FitsAct told }
         ensures ready { OnOk result (IsReady (D.tells disk.new) (D.moments disk.new) self.new) }
         ensures fits { IfOk result FitsAct }
-        ensures makes { Signs K.sign_gives result keys.old keys.new (λ signings. (b : Before) (m : Step) → KeysFit K.accepts b.keys m.signed keys.old signings → Grows K.accepts keys.old signings → Tells b m told self.old (around (K.accepts keys.old) (D.tells disk.old) (D.moments disk.old) out.old) → GoesOn result (λ next. Ends b (votes node_ways b.keys m) next self.new (around (K.accepts keys.new) (D.tells disk.new) (D.moments disk.new) out.new)) (IsStopped b (votes node_ways b.keys m) (m.signed ++ statements_in signings) (K.accepts (keys_after keys.old signings)) (D.tells disk.old) (D.moments disk.new))) }
+        ensures makes { Signs K.sign_gives result keys.old keys.new (λ signings. (b : Before) (m : Step) → KeysFit K.accepts b.keys m.signed keys.old signings → Grows K.accepts keys.old signings → Tells b m told self.old (around (K.accepts keys.old) (D.tells disk.old) (D.moments disk.old) out.old) → GoesOn result (λ next. Ends b (votes node_ways b.keys m) next self.new (around (K.accepts keys.new) (D.tells disk.new) (D.moments disk.new) out.new)) (λ fault. IsStopped b (votes node_ways b.keys m) (m.signed ++ statements_in signings) (K.accepts (keys_after keys.old signings)) (D.tells disk.old) (D.moments disk.new) fault)) }
         ensures tells { D.tells disk.new ≡ D.tells disk.old }
         ensures later { (D.faults disk.old ≤ D.faults disk.new) × (K.faults keys.old ≤ K.faults keys.new) }
         ensures cause { HasNodeCause (counts (D.faults disk.old) (K.faults keys.old)) (counts (D.faults disk.new) (K.faults keys.new)) result }
@@ -218,7 +218,7 @@ impl Running {
         requires ready { IsReady (D.tells disk.old) (D.moments disk.old) self.old }
         requires fits { FitsAct told }
         ensures ready { OnOk result (IsReady (D.tells disk.new) (D.moments disk.new) self.new) }
-        ensures makes { Signs K.sign_gives result keys.old keys.new (λ signings. (b : Before) (m : Step) → KeysFit K.accepts b.keys m.signed keys.old signings → Grows K.accepts keys.old signings → Tells b m told self.old (around (K.accepts keys.old) (D.tells disk.old) (D.moments disk.old) out.old) → GoesOn result (λ _. Makes b (rounds node_ways b.keys 2 m) act_of.Kept self.new (around (K.accepts keys.new) (D.tells disk.new) (D.moments disk.new) out.new)) (IsStopped b (rounds node_ways b.keys 2 m) (m.signed ++ statements_in signings) (K.accepts (keys_after keys.old signings)) (D.tells disk.old) (D.moments disk.new))) }
+        ensures makes { Signs K.sign_gives result keys.old keys.new (λ signings. (b : Before) (m : Step) → KeysFit K.accepts b.keys m.signed keys.old signings → Grows K.accepts keys.old signings → Tells b m told self.old (around (K.accepts keys.old) (D.tells disk.old) (D.moments disk.old) out.old) → GoesOn result (λ _. Makes b (rounds node_ways b.keys 2 m) act_of.Kept self.new (around (K.accepts keys.new) (D.tells disk.new) (D.moments disk.new) out.new)) (λ fault. IsStopped b (rounds node_ways b.keys 2 m) (m.signed ++ statements_in signings) (K.accepts (keys_after keys.old signings)) (D.tells disk.old) (D.moments disk.new) fault)) }
         ensures tells { D.tells disk.new ≡ D.tells disk.old }
         ensures later { (D.faults disk.old ≤ D.faults disk.new) × (K.faults keys.old ≤ K.faults keys.new) }
         ensures cause { HasNodeCause (counts (D.faults disk.old) (K.faults keys.old)) (counts (D.faults disk.new) (K.faults keys.new)) result }

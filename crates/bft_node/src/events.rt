@@ -51,7 +51,7 @@ impl Running {
         requires ready { IsReady (D.tells disk.old) (D.moments disk.old) self.old }
         requires fits { FitsBlock block }
         ensures ready { OnOk result (IsReady (D.tells disk.new) (D.moments disk.new) self.new) }
-        ensures makes { (accepts : SomeAccepts) (b : Before) (m : Step) → Makes b m (act_of.Accept block) self.old (around accepts (D.tells disk.old) (D.moments disk.old) out.old) → GoesOn result (λ _. Makes b (makes_accepted node_ways block (preprepare_message (place_in m) (view_in m) block ∷ []) m) act_of.Kept self.new (around accepts (D.tells disk.new) (D.moments disk.new) out.new)) (IsStopped b (makes_accepted node_ways block (preprepare_message (place_in m) (view_in m) block ∷ []) m) m.signed accepts (D.tells disk.old) (D.moments disk.new)) }
+        ensures makes { (accepts : SomeAccepts) (b : Before) (m : Step) → Makes b m (act_of.Accept block) self.old (around accepts (D.tells disk.old) (D.moments disk.old) out.old) → GoesOn result (λ _. Makes b (makes_accepted node_ways block (preprepare_message (place_in m) (view_in m) block ∷ []) m) act_of.Kept self.new (around accepts (D.tells disk.new) (D.moments disk.new) out.new)) (λ fault. IsStopped b (makes_accepted node_ways block (preprepare_message (place_in m) (view_in m) block ∷ []) m) m.signed accepts (D.tells disk.old) (D.moments disk.new) fault) }
         ensures tells { D.tells disk.new ≡ D.tells disk.old }
         ensures later { D.faults disk.old ≤ D.faults disk.new }
         ensures cause { HasNodeCause (counts (D.faults disk.old) 0) (counts (D.faults disk.new) 0) result }
@@ -72,7 +72,7 @@ impl Running {
     ) -> Result<(), NodeFault>
         requires { IsReady (D.tells disk.old) (D.moments disk.old) self.old }
         ensures ready { OnOk result (IsReady (D.tells disk.new) (D.moments disk.new) self.new) }
-        ensures makes { (b : Before) (m : Step) → Makes b m act_of.Kept self.old (around (V.accepts keys.now) (D.tells disk.old) (D.moments disk.old) out.old) → GoesOn result (λ _. Makes b (propose_round node_ways (proposed (place_in m) (view_in m) offer) m) act_of.Kept self.new (around (V.accepts keys.now) (D.tells disk.new) (D.moments disk.new) out.new)) (IsStopped b (propose_round node_ways (proposed (place_in m) (view_in m) offer) m) m.signed (V.accepts keys.now) (D.tells disk.old) (D.moments disk.new)) }
+        ensures makes { (b : Before) (m : Step) → Makes b m act_of.Kept self.old (around (V.accepts keys.now) (D.tells disk.old) (D.moments disk.old) out.old) → GoesOn result (λ _. Makes b (propose_round node_ways (proposed (place_in m) (view_in m) offer) m) act_of.Kept self.new (around (V.accepts keys.now) (D.tells disk.new) (D.moments disk.new) out.new)) (λ fault. IsStopped b (propose_round node_ways (proposed (place_in m) (view_in m) offer) m) m.signed (V.accepts keys.now) (D.tells disk.old) (D.moments disk.new) fault) }
         ensures tells { D.tells disk.new ≡ D.tells disk.old }
         ensures later { D.faults disk.old ≤ D.faults disk.new }
         ensures cause { HasNodeCause (counts (D.faults disk.old) 0) (counts (D.faults disk.new) 0) result }
@@ -93,7 +93,7 @@ impl Running {
     ) -> Result<(), NodeFault>
         requires { IsReady (D.tells disk.old) (D.moments disk.old) self.old }
         ensures ready { OnOk result (IsReady (D.tells disk.new) (D.moments disk.new) self.new) }
-        ensures makes { Signs K.sign_gives result keys.old keys.new (λ signings. (b : Before) → KeysFit K.accepts b.keys [] keys.old signings → Grows K.accepts keys.old signings → Begins b self.old (around (K.accepts keys.old) (D.tells disk.old) (D.moments disk.old) out.old) → GoesOn result (λ _. Makes b (step node_returns b.keys (unlogged (state_of self.old)) (Tick offer)) act_of.Kept self.new (around (K.accepts keys.new) (D.tells disk.new) (D.moments disk.new) out.new)) (IsStopped b (step node_returns b.keys (unlogged (state_of self.old)) (Tick offer)) (statements_in signings) (K.accepts (keys_after keys.old signings)) (D.tells disk.old) (D.moments disk.new))) }
+        ensures makes { Signs K.sign_gives result keys.old keys.new (λ signings. (b : Before) → KeysFit K.accepts b.keys [] keys.old signings → Grows K.accepts keys.old signings → Begins b self.old (around (K.accepts keys.old) (D.tells disk.old) (D.moments disk.old) out.old) → GoesOn result (λ _. Makes b (step node_returns b.keys (unlogged (state_of self.old)) (Tick offer)) act_of.Kept self.new (around (K.accepts keys.new) (D.tells disk.new) (D.moments disk.new) out.new)) (λ fault. IsStopped b (step node_returns b.keys (unlogged (state_of self.old)) (Tick offer)) (statements_in signings) (K.accepts (keys_after keys.old signings)) (D.tells disk.old) (D.moments disk.new) fault)) }
         ensures tells { D.tells disk.new ≡ D.tells disk.old }
         ensures later { (D.faults disk.old ≤ D.faults disk.new) × (K.faults keys.old ≤ K.faults keys.new) }
         ensures cause { HasNodeCause (counts (D.faults disk.old) (K.faults keys.old)) (counts (D.faults disk.new) (K.faults keys.new)) result }
@@ -179,7 +179,7 @@ impl Running {
     ) -> Result<(), NodeFault>
         requires { IsReady (D.tells disk.old) (D.moments disk.old) self.old }
         ensures ready { OnOk result (IsReady (D.tells disk.new) (D.moments disk.new) self.new) }
-        ensures makes { Signs K.sign_gives result keys.old keys.new (λ signings. (b : Before) → KeysFit K.accepts b.keys [] keys.old signings → Grows K.accepts keys.old signings → Begins b self.old (around (K.accepts keys.old) (D.tells disk.old) (D.moments disk.old) out.old) → GoesOn result (λ _. Makes b (step node_returns b.keys (unlogged (state_of self.old)) (FromMember from bytes.now)) act_of.Kept self.new (around (K.accepts keys.new) (D.tells disk.new) (D.moments disk.new) out.new)) (IsStopped b (step node_returns b.keys (unlogged (state_of self.old)) (FromMember from bytes.now)) (statements_in signings) (K.accepts (keys_after keys.old signings)) (D.tells disk.old) (D.moments disk.new))) }
+        ensures makes { Signs K.sign_gives result keys.old keys.new (λ signings. (b : Before) → KeysFit K.accepts b.keys [] keys.old signings → Grows K.accepts keys.old signings → Begins b self.old (around (K.accepts keys.old) (D.tells disk.old) (D.moments disk.old) out.old) → GoesOn result (λ _. Makes b (step node_returns b.keys (unlogged (state_of self.old)) (FromMember from bytes.now)) act_of.Kept self.new (around (K.accepts keys.new) (D.tells disk.new) (D.moments disk.new) out.new)) (λ fault. IsStopped b (step node_returns b.keys (unlogged (state_of self.old)) (FromMember from bytes.now)) (statements_in signings) (K.accepts (keys_after keys.old signings)) (D.tells disk.old) (D.moments disk.new) fault)) }
         ensures tells { D.tells disk.new ≡ D.tells disk.old }
         ensures later { (D.faults disk.old ≤ D.faults disk.new) × (K.faults keys.old ≤ K.faults keys.new) }
         ensures cause { HasNodeCause (counts (D.faults disk.old) (K.faults keys.old)) (counts (D.faults disk.new) (K.faults keys.new)) result }
@@ -198,7 +198,7 @@ impl Running {
     ) -> Result<(), NodeFault>
         requires { IsReady (D.tells disk.old) (D.moments disk.old) self.old }
         ensures ready { OnOk result (IsReady (D.tells disk.new) (D.moments disk.new) self.new) }
-        ensures makes { Signs K.sign_gives result keys.old keys.new (λ signings. (b : Before) → KeysFit K.accepts b.keys [] keys.old signings → Grows K.accepts keys.old signings → Begins b self.old (around (K.accepts keys.old) (D.tells disk.old) (D.moments disk.old) out.old) → GoesOn result (λ _. Makes b (step node_returns b.keys (unlogged (state_of self.old)) (event_of event)) act_of.Kept self.new (around (K.accepts keys.new) (D.tells disk.new) (D.moments disk.new) out.new)) (IsStopped b (step node_returns b.keys (unlogged (state_of self.old)) (event_of event)) (statements_in signings) (K.accepts (keys_after keys.old signings)) (D.tells disk.old) (D.moments disk.new))) }
+        ensures makes { Signs K.sign_gives result keys.old keys.new (λ signings. (b : Before) → KeysFit K.accepts b.keys [] keys.old signings → Grows K.accepts keys.old signings → Begins b self.old (around (K.accepts keys.old) (D.tells disk.old) (D.moments disk.old) out.old) → GoesOn result (λ _. Makes b (step node_returns b.keys (unlogged (state_of self.old)) (event_of event)) act_of.Kept self.new (around (K.accepts keys.new) (D.tells disk.new) (D.moments disk.new) out.new)) (λ fault. IsStopped b (step node_returns b.keys (unlogged (state_of self.old)) (event_of event)) (statements_in signings) (K.accepts (keys_after keys.old signings)) (D.tells disk.old) (D.moments disk.new) fault)) }
         ensures tells { D.tells disk.new ≡ D.tells disk.old }
         ensures later { (D.faults disk.old ≤ D.faults disk.new) × (K.faults keys.old ≤ K.faults keys.new) }
         ensures cause { HasNodeCause (counts (D.faults disk.old) (K.faults keys.old)) (counts (D.faults disk.new) (K.faults keys.new)) result }

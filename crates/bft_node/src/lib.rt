@@ -9,16 +9,17 @@ mod fixtures;
 mod keeping;
 mod laws;
 mod live;
+mod lodged;
 mod member;
 mod node;
 mod node_fault;
+mod nodes;
 mod open;
+mod own_nodes;
 mod repeats;
 mod resume;
 mod sending;
 mod spelled;
-#[cfg(test)]
-mod step_tests;
 mod store;
 #[cfg(test)]
 mod tests;
@@ -29,4 +30,6 @@ pub use laws::{deeds_are_found, stored_deeds_stand};
 pub use live::{Done, Event, Out, Post, Setup};
 pub use member::Node;
 pub use node_fault::NodeFault;
+pub use nodes::Nodes;
+pub use own_nodes::OwnNodes;
 pub use store::Store;

@@ -15,7 +15,7 @@ ghost use Rattle.node_model.specs.Steps.{Keys};
 ghost use Rattle.view_core.specs.Places.{IsPlace};
 ghost use Rattle.bft_node.specs.NodeFaults.{HasNodeCause, counts};
 ghost use Rattle.bft_node.specs.NodeOpenings.{NodeOpens};
-ghost use Rattle.bft_node.specs.NodeSteps.{Steps, StepsWithin};
+ghost use Rattle.bft_node.specs.NodeSteps.{TakesStep};
 ghost use Rattle.bft_node.specs.Returning.{accepted_in, is_prepared_in, opened, view_at};
 ghost use Rattle.bft_node.specs.Running.{IsReady, IsSound, as_found, event_of, place_of, state_of};
 ghost use Rattle.bft_node.specs.Signings.{Grows, KeysFit, Signs, keys_after, statements_in};
@@ -32,6 +32,7 @@ use gate_log::Disk;
 use ord_types::{Block, Cert, List, NoMemory, Place, Vote, genesis_block};
 use signer_edge::{Signer, Verifier};
 use std::alloc::Global;
+use view_core::ViewState;
 
 impl From<NoMemory> for OpenFault {
     ghost use Rattle.std.specs.Prelude.{◌≡◌};
@@ -154,6 +155,7 @@ impl Node {
         ensures ready { IfOk result (λ node. IsReady (D.tells disk.new) (D.moments disk.new) node.running) }
         ensures open { IfOk result (λ node. node.closed ≡ false) }
         ensures config { IfOk result (λ node. config_of node.running.store ≡ setup.now.genesis) }
+        ensures id { IfOk result (λ node. node.running.id ≡ setup.now.me) }
         ensures chain { IfOk result (λ node. IsChain (K.accepts keys.old) setup.now.genesis (held_of node.running.store).blocks) }
 
         // The node is what an opening makes of what the files stand for; or the first fault is told, of the ledger's file before the log's.
@@ -189,16 +191,16 @@ impl Node {
 
         ensures kept { IsTrue (D.tells disk.new) → OnOk result (IsKept self.new.running.store (now (D.moments disk.new))) }
 
-        // By keys of the definition that say what these did and answered.
+        // By keys of the definition that say what these did and answered. What the keys signed is a list of signings.
         ensures step { self.old.closed ≡ false → Signs K.sign_gives result keys.old keys.new (λ signings. (model : Keys) → KeysFit K.accepts model [] keys.old signings → Grows K.accepts keys.old signings
-            → Steps model self.old.running self.new.running (event_of event) (statements_in signings) result
-            × StepsWithin model self.old.running (event_of event) (K.accepts keys.old) (K.accepts (keys_after keys.old signings)) (D.tells disk.old) (D.moments disk.old) (D.moments disk.new)) }
+            → TakesStep model self.old.running self.new.running (event_of event) (statements_in signings) (K.accepts keys.old) (K.accepts (keys_after keys.old signings)) result (D.tells disk.old) (D.moments disk.old) (D.moments disk.new)) }
 
         // Closed is answered by a closed node, which does nothing; any failure closes it.
         ensures closed { (result ≡ Err NodeFault.Closed) ↔ (self.old.closed ≡ true) }
         ensures nothing { self.old.closed ≡ true → (disk.new ≡ disk.old) × (keys.new ≡ keys.old) }
         ensures closes { self.new.closed ≡ is_err result }
         ensures config { OnOk result (config_of self.new.running.store ≡ config_of self.old.running.store) }
+        ensures id { OnOk result (self.new.running.id ≡ self.old.running.id) }
         ensures tells { D.tells disk.new ≡ D.tells disk.old }
         ensures later { (D.faults disk.old ≤ D.faults disk.new) × (K.faults keys.old ≤ K.faults keys.new) }
         ensures cause { self.old.closed ≡ false → HasNodeCause (counts (D.faults disk.old) (K.faults keys.old)) (counts (D.faults disk.new) (K.faults keys.new)) result }
@@ -241,5 +243,12 @@ impl Node {
             .store
             .wal
             .durable(self.running.alloc, place.config.number, place.height)
+    }
+
+    /// What it holds of its view.
+    pub fn view(&self) -> &ViewState
+        ensures { result.now ≡ self.now.running.view }
+    {
+        &self.running.view
     }
 }
