@@ -305,6 +305,7 @@ fn propose<N: Nodes>(
     id: ReqId,
     payload: Bytes,
 ) -> Result<Option<Ending>, NoMemory>
+    requires short { length payload ≤ 65536 }
     requires sound { IsSound (N.at nodes.now) world.old }
     ensures sound { OnOk result (IsSound (N.at nodes.now) world.new) }
     ensures ends { IfOk result (λ ending. IfSome ending EndsTurn) }
