@@ -1,5 +1,5 @@
 //! The deeds of a step, each made durable and told before anything rests on it.
-ghost use Rattle.std.specs.Prelude.{◌≡◌, ◌≤◌, ◌<◌, ◌^◌, IsTrue, OnOk, IfOk, map, None};
+ghost use Rattle.std.specs.Prelude.{◌≡◌, ◌≤◌, ◌<◌, ◌^◌, IsTrue, OnOk, IfErr, IfOk, map, None};
 ghost use Rattle.ord_types.specs.Grammar.{HasBlockSpelling, IsDigest};
 ghost use Rattle.ord_types.specs.declared.values.Proof.TheVariants.{Bft};
 ghost use Rattle.block_ledger.specs.Entries.{HasEntrySpelling};
@@ -7,7 +7,7 @@ ghost use Rattle.block_ledger.specs.Judging.{next_refusal};
 ghost use Rattle.signer_edge.specs.Accepts.{Accepts as SomeAccepts};
 ghost use Rattle.node_model.specs.Deeds.{Delivers, acceptance, preparation};
 ghost use Rattle.bft_node.specs.Keeping.{Keeps, KeepsWithin};
-ghost use Rattle.bft_node.specs.NodeFaults.{HasNodeCause, counts};
+ghost use Rattle.bft_node.specs.NodeFaults.{HasNodeCause, NeedsLimit, counts};
 ghost use Rattle.bft_node.specs.Running.{IsReady, place_of};
 ghost use Rattle.bft_node.specs.Stores.{IsKept, config_of, held_of};
 ghost use Rattle.block_ledger.specs.Chains.{IsChain};
@@ -76,6 +76,7 @@ impl Running {
         ensures ready { OnOk result (IsReady (D.tells disk.new) (D.moments disk.new) self.new) }
         ensures keeps { OnOk result (Keeps (acceptance (place_of self.old) self.old.view block) self.old self.new out.old out.new) }
         ensures any_moment { (accepts : SomeAccepts) → KeepsWithin (acceptance (place_of self.old) self.old.view block) self.old accepts (D.tells disk.old) (D.moments disk.old) (D.moments disk.new) }
+        ensures limit { IfErr result (NeedsLimit (acceptance (place_of self.old) self.old.view block) (held_of self.old.store)) }
         ensures tells { D.tells disk.new ≡ D.tells disk.old }
         ensures later { D.faults disk.old ≤ D.faults disk.new }
         ensures cause { HasNodeCause (counts (D.faults disk.old) 0) (counts (D.faults disk.new) 0) result }
@@ -112,6 +113,7 @@ impl Running {
         ensures ready { OnOk result (IsReady (D.tells disk.new) (D.moments disk.new) self.new) }
         ensures keeps { OnOk result (Keeps (preparation (place_of self.old) self.old.view digest) self.old self.new out.old out.new) }
         ensures any_moment { (accepts : SomeAccepts) → KeepsWithin (preparation (place_of self.old) self.old.view digest) self.old accepts (D.tells disk.old) (D.moments disk.old) (D.moments disk.new) }
+        ensures limit { IfErr result (NeedsLimit (preparation (place_of self.old) self.old.view digest) (held_of self.old.store)) }
         ensures tells { D.tells disk.new ≡ D.tells disk.old }
         ensures later { D.faults disk.old ≤ D.faults disk.new }
         ensures cause { HasNodeCause (counts (D.faults disk.old) 0) (counts (D.faults disk.new) 0) result }
@@ -147,6 +149,7 @@ impl Running {
         ensures place { OnOk result (IsPlace (place_of self.new)) }
         ensures keeps { OnOk result (Keeps (Delivers self.old.view.me block cert) self.old self.new out.old out.new) }
         ensures any_moment { KeepsWithin (Delivers self.old.view.me block cert) self.old (V.accepts keys.now) (D.tells disk.old) (D.moments disk.old) (D.moments disk.new) }
+        ensures limit { IfErr result (NeedsLimit (Delivers self.old.view.me block cert) (held_of self.old.store)) }
         ensures tells { D.tells disk.new ≡ D.tells disk.old }
         ensures later { D.faults disk.old ≤ D.faults disk.new }
         ensures cause { HasNodeCause (counts (D.faults disk.old) 0) (counts (D.faults disk.new) 0) result }
