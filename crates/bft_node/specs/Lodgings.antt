@@ -41,6 +41,10 @@ StaysAlike before after = (id : ℕ) → after id ≡ before id
 abbrev pub accepts_of : Seat → Accepts
 accepts_of seat = is_sealed seat.seals
 
+-- the disk is as the node's last call left it
+abbrev pub IsKeptIn : Lodged → Type 0
+IsKeptIn l = l.node.closed ≡ false → IsKept l.node.running.store (now (states l.disk.history))
+
 -- A node as it is opened on what this disk holds.
 pub record IsOpenedOn (setup : Setup) (accepts : Accepts) (disk : MemDisk) (l : Lodged) : Type 0 where
   pub runs : l.node.closed ≡ false

@@ -3,7 +3,6 @@ ghost use Rattle.std.specs.Prelude.{◌≡◌, IfOk, false};
 ghost use Rattle.ord_types.specs.Genesis.{IsGenesisConfig};
 ghost use Rattle.gate_log.specs.Disk.{now};
 ghost use Rattle.gate_log.specs.History.{states};
-ghost use Rattle.bft_node.specs.Stores.{IsKept};
 
 use crate::live::{Event, Out, Setup};
 use crate::{Node, NodeFault, OpenFault};
@@ -16,12 +15,11 @@ use std::alloc::Global;
 pub struct Lodged {
     pub(crate) node: Node,
     pub(crate) disk: MemDisk,
-    ghost kept: { node.closed ≡ false → IsKept node.running.store (now (states disk.history)) },
 }
 
 impl Lodged {
     ghost use Rattle.std.specs.Prelude.{MatchResult};
-    ghost use Rattle.bft_node.specs.Lodgings.{IsOpenedOn, IsStepOf, accepts_of};
+    ghost use Rattle.bft_node.specs.Lodgings.{IsKeptIn, IsOpenedOn, IsStepOf, accepts_of};
     ghost use Rattle.bft_node.specs.Stores.{OpensTo};
     ghost use Rattle.std.specs.Prelude.{Err};
 
@@ -43,6 +41,7 @@ impl Lodged {
 
     /// An event of the node.
     pub(crate) fn step(&mut self, event: Event, keys: &mut SealSeat) -> Result<Out, NodeFault>
+        requires { IsKeptIn self.old }
         ensures { IsStepOf self.old self.new event keys.old keys.new result }
     {
         self.node.step(event, &mut self.disk, keys)

@@ -3,7 +3,7 @@ ghost use Rattle.std.specs.Prelude.{◌≡◌, None, Some, OnOk, is_some, true, 
 ghost use Rattle.ord_types.specs.Genesis.{IsGenesisConfig};
 ghost use Rattle.block_ledger.specs.Answers.{GivesBlock};
 ghost use Rattle.block_ledger.specs.Ledgers.{blocks_of};
-ghost use Rattle.bft_node.specs.Lodgings.{Adds, Becomes, Lodging, StaysAlike, StepsAt, accepts_of, with_arm};
+ghost use Rattle.bft_node.specs.Lodgings.{Adds, Becomes, IsKeptIn, Lodging, StaysAlike, StepsAt, accepts_of, with_arm};
 ghost use Rattle.bft_node.specs.declared.lodged.Lodged.{Lodged as SomeLodged};
 
 use crate::live::{Event, Out, Setup};
@@ -34,7 +34,8 @@ pub trait Nodes {
 
     /// An event of a node. After a failure the node is closed.
     fn step(&mut self, node: u32, event: Event, keys: &mut SealSeat) -> Result<Out, NodeFault>
-        requires { is_some (at self.old node) ≡ true }
+        requires there { is_some (at self.old node) ≡ true }
+        requires kept { (l : SomeLodged) → at self.old node ≡ Some l → IsKeptIn l }
         ensures { StepsAt (at self.old) (at self.new) node event keys.old keys.new result };
 
     /// Arms the disk of a node: it stops at this counted call from here, counted from 1, and leaves this image.
