@@ -20,7 +20,7 @@ use Rattle.node_model.specs.Steps.{Event}
 use Rattle.world_model.specs.Histories.{past_setting}
 use Rattle.world_model.specs.Pools.{answer}
 use Rattle.world_model.specs.Texts.{deliver_text, fact_text, flush_text, limit_text, show_text, stopped_text, tick_text}
-use Rattle.world_model.specs.Turns.{counted, deliver_turn, deliveries, delivery, delivery_to, event_by, event_goes, event_turn, first_outcome, flush_turn, flushes, goes_on, is_running, most_entries, refuses, says, show_turn, shows, start_turn, stop_at_turn, stop_turn, submit_turn, submitted, then_on, tick_at, ticks, unless_stopped}
+use Rattle.world_model.specs.Turns.{counted, deliver_turn, deliveries, delivery, delivery_to, event_by, event_goes, event_turn, first_outcome, flush_turn, flushes, goes_on, is_running, most_entries, refuses, says, show_turn, shows, start_turn, stop_at_turn, stop_turn, submit_turn, submitted, then_on, tick_at, ticks, unless_stopped, with_later}
 use Rattle.world_model.specs.Worlds.{Entry, GoesOn, Node, Outcome, Stops, deeds_in, entry, is_waiting, letter_from, making, marked, node_at, node_started, running_at, tick_of, with_node, world_after, world_stopped_in}
 use Rattle.world_safety.specs.Telling.{AreStops, Happened, IsSo, IsStopIn, NoBlock, NoEntry, Reply, Stopped, Went, end_text, event_text, events_text, facts_in, facts_of, histories_after, last_of, node_in, reply_text, told_in}
 use Rattle.world_safety.specs.Telling as it
@@ -184,8 +184,8 @@ module _ (number : ℕ) where
       outcome = first_outcome w.outcomes
 
       go : (t : Bool)
-          → IsEvent w (cond t (after_event_by (after_outcome w) node event outcome) (after_event_by w node event GoesOn)) (cond t (event_by past_setting number (after_outcome w) node event outcome) (event_goes past_setting number w node event))
-      go true = let is = event_by_ends (after_outcome w) node event outcome in record { happened = is.happened; told = is.told; stop = is.stop; ends = is.ends }
+          → IsEvent w (cond t (after_event_by (after_outcome w) node event outcome) (after_event_by w node event GoesOn)) (cond t (event_by past_setting number (with_later w) node event outcome) (event_goes past_setting number w node event))
+      go true = let is = event_by_ends (with_later w) node event outcome in record { happened = is.happened; told = is.told; stop = is.stop; ends = is.ends }
       go false = went_ends w node event
 
   pub tick_ends : (w : PastWorld) (node : Node PastNode) → IsEvent w (after_tick w node) (tick_at past_setting number w (Some node))
