@@ -1,9 +1,16 @@
+mod ActLemmas
 mod Folds
 mod GoingOn
+mod KeepingLemmas
+mod MakingLemmas
 mod Nexts
 mod Opened
+mod PlaceLemmas
 mod Resumed
+mod RoundLemmas
 mod Running
+mod SpelledLemmas
 mod Standings
 mod Stands
 mod StepDeeds
+mod ViewLemmas

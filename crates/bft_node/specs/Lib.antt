@@ -1,7 +1,16 @@
+pub mod Commits
 pub mod Crashes
 pub mod Held
+pub mod Keeping
 pub mod Laws
+pub mod Lodgings
+pub mod Making
+pub mod NodeFaults
+pub mod NodeOpenings
+pub mod NodeSteps
 pub mod Openings
 pub mod Returning
+pub mod Running
+pub mod Signings
 pub mod Standing
 pub mod Stores

@@ -1,5 +1,5 @@
 -- A ledger and a log over one disk, and what their calls leave and answer.
-use Rattle.std.specs.Prelude.{◌≡◌, ◌≢◌, ◌⊎◌, ℕ, ◌+◌, ◌^◌, List, [], ◌∷◌, ◌++◌, length, nat_lt, Option, Some, None, Result, Ok, Err, if◌then◌else◌}
+use Rattle.std.specs.Prelude.{◌≡◌, ◌≢◌, ◌⊎◌, Bool, false, ℕ, ◌+◌, ◌^◌, List, [], ◌∷◌, ◌++◌, length, nat_lt, Option, Some, None, Result, Ok, Err, if◌then◌else◌}
 use Rattle.ord_types.specs.Causes.{Rose}
 use Rattle.ord_types.specs.declared.values.Config.{Config}
 use Rattle.gate_log.specs.Disk.{State}
@@ -88,14 +88,14 @@ OpensTo accepts c state (Err (open_of.Limit n)) = ⊥
 OpensTo accepts c state (Err open_of.NoMemory) = Unit {0}
 OpensTo accepts c state (Err open_of.Disk) = Unit {0}
 
--- what holds where the disk failed
-abbrev pub OnDisk : {T : Type 0} → Result T OpenFault → Type 0 → Type 0
-OnDisk (Ok _) P = Unit {0}
-OnDisk (Err (open_of.Foreign file at)) P = Unit {0}
-OnDisk (Err (open_of.Stored number why)) P = Unit {0}
-OnDisk (Err (open_of.Limit n)) P = Unit {0}
-OnDisk (Err open_of.NoMemory) P = Unit {0}
-OnDisk (Err open_of.Disk) P = P
+-- why a store isn't opened; a disk that doesn't tell may hold a file that gets too long by what an opening adds
+abbrev pub OpenAnswers : {T : Type 0} → Bool → ℕ → ℕ → Result T OpenFault → Type 0
+OpenAnswers tells before now (Ok _) = Unit {0}
+OpenAnswers tells before now (Err (open_of.Foreign file at)) = (file ≡ 0) ⊎ (file ≡ 2)
+OpenAnswers tells before now (Err (open_of.Stored number why)) = Unit {0}
+OpenAnswers tells before now (Err (open_of.Limit n)) = tells ≡ false
+OpenAnswers tells before now (Err open_of.NoMemory) = Unit {0}
+OpenAnswers tells before now (Err open_of.Disk) = Rose before now
 
 -- The files of a crash open to what those of a crash at an earlier moment could have opened to.
 pub record OpensAsBefore (accepts : Accepts) (c : Config) (before : State) (image : Image) : Type 0 where

@@ -1,11 +1,10 @@
 ghost use Rattle.std.specs.Prelude.{◌≡◌, ◌≤◌, IsTrue, IfOk};
-ghost use Rattle.ord_types.specs.Causes.{Rose};
 ghost use Rattle.ord_types.specs.declared.values.Config.{Config as FirstConfig};
 ghost use Rattle.gate_log.specs.Disk.{now};
 ghost use Rattle.gate_log.specs.Runs.{Went};
 ghost use Rattle.block_ledger.specs.Chains.{IsChain, IsGenesis, IsSomeGenesis};
 ghost use Rattle.bft_node.specs.Openings.{ledger_fault, log_fault};
-ghost use Rattle.bft_node.specs.Stores.{IsKept, OnDisk, OpensTo, StaysOpen, config_of, held_of};
+ghost use Rattle.bft_node.specs.Stores.{IsKept, OpenAnswers, OpensTo, StaysOpen, config_of, held_of};
 
 use crate::{OpenFault, Store};
 use bft_wal::Wal;
@@ -73,7 +72,7 @@ impl Store {
             → Went (StaysOpen (V.accepts verifier.now) c (now (D.moments disk.old))) (D.moments disk.old) (D.moments disk.new) }
         ensures tells { D.tells disk.new ≡ D.tells disk.old }
         ensures later { D.faults disk.old ≤ D.faults disk.new }
-        ensures failed { OnDisk result (Rose (D.faults disk.old) (D.faults disk.new)) }
+        ensures cause { OpenAnswers (D.tells disk.old) (D.faults disk.old) (D.faults disk.new) result }
     {
         let ledger = Ledger::open(alloc, disk, genesis, verifier)?;
         let wal = Wal::open(alloc, disk)?;

@@ -117,13 +117,13 @@ not_told false t h = absurd (false≢true t)
 pub begin_value : (tells : Bool) (before now : ℕ) (stored : Stored) (fault : LedgerFault) → IsTrue tells → BeginAnswers tells before now (Err fault) → OpensTo stored (Err fault)
 begin_value tells before now stored fault_of.NoMemory t h = tt
 begin_value tells before now stored fault_of.Failed t h = tt
-begin_value tells before now stored (fault_of.WrongNumber n) t h = not_told tells t h
-begin_value tells before now stored (fault_of.WrongPrevious a b) t h = not_told tells t h
-begin_value tells before now stored (fault_of.BadBlock x) t h = not_told tells t h
-begin_value tells before now stored (fault_of.BadCert x) t h = not_told tells t h
-begin_value tells before now stored fault_of.BadProof t h = not_told tells t h
-begin_value tells before now stored (fault_of.Foreign n) t h = absurd (not_told tells t h)
-begin_value tells before now stored (fault_of.Stored n why) t h = absurd (not_told tells t h)
+begin_value tells before now stored (fault_of.WrongNumber n) t h = h
+begin_value tells before now stored (fault_of.WrongPrevious a b) t h = h
+begin_value tells before now stored (fault_of.BadBlock x) t h = h
+begin_value tells before now stored (fault_of.BadCert x) t h = h
+begin_value tells before now stored fault_of.BadProof t h = h
+begin_value tells before now stored (fault_of.Foreign n) t h = absurd h
+begin_value tells before now stored (fault_of.Stored n why) t h = absurd h
 begin_value tells before now stored (fault_of.Limit n) t h = not_told tells t h
 
 -- what holds after a refusal, and what follows

@@ -84,14 +84,20 @@ abbrev pub BeginAnswers : Bool → ℕ → ℕ → Result Ledger LedgerFault →
 BeginAnswers tells before now (Ok _) = Unit {0}
 BeginAnswers tells before now (Err fault_of.NoMemory) = Unit {0}
 BeginAnswers tells before now (Err fault_of.Failed) = Rose before now
-BeginAnswers tells before now (Err told) = tells ≡ false
+BeginAnswers tells before now (Err (fault_of.Limit n)) = tells ≡ false
+BeginAnswers tells before now (Err told) = ⊥
 
 -- the block of a number with its proof, unless memory runs out
 abbrev pub GivesBlock : Option Entry → Result (Option Entry) LedgerFault → Type 0
 GivesBlock entry (Ok found) = found ≡ entry
 GivesBlock entry (Err fault) = fault ≡ fault_of.NoMemory
 
--- what holds where the disk failed
-abbrev pub OnFailed : {T : Type 0} → Result T LedgerFault → Type 0 → Type 0
-OnFailed (Err fault_of.Failed) P = P
-OnFailed result P = Unit {0}
+-- why a ledger isn't opened; a disk that doesn't tell may hold a file that gets too long by the genesis block
+abbrev pub OpenAnswers : Bool → ℕ → ℕ → Result Ledger LedgerFault → Type 0
+OpenAnswers tells before now (Ok _) = Unit {0}
+OpenAnswers tells before now (Err (fault_of.Foreign at)) = Unit {0}
+OpenAnswers tells before now (Err (fault_of.Stored number why)) = Unit {0}
+OpenAnswers tells before now (Err fault_of.NoMemory) = Unit {0}
+OpenAnswers tells before now (Err (fault_of.Limit n)) = tells ≡ false
+OpenAnswers tells before now (Err fault_of.Failed) = Rose before now
+OpenAnswers tells before now (Err told) = ⊥

@@ -1,10 +1,9 @@
 ghost use Rattle.std.specs.Prelude.{◌≡◌, ℕ, ◌≤◌, ◌<◌, ◌^◌, List, [], ◌∷◌, ◌++◌, length, map, IsTrue, IfOk, OnOk, OnErr, true, None};
-ghost use Rattle.ord_types.specs.Causes.{Rose};
 ghost use Rattle.ord_types.specs.declared.values.Config.{Config as FirstConfig};
 ghost use Rattle.gate_log.specs.Disk.{now};
 ghost use Rattle.gate_log.specs.Runs.{Leaves};
 ghost use Rattle.gate_log.specs.Settled.{IsSettled};
-ghost use Rattle.block_ledger.specs.Answers.{BeginAnswers, OnFailed, OnRefusal, OpensTo};
+ghost use Rattle.block_ledger.specs.Answers.{BeginAnswers, OnRefusal, OpenAnswers, OpensTo};
 ghost use Rattle.block_ledger.specs.Chains.{IsChain, IsGenesis, IsSomeGenesis, genesis_entry};
 ghost use Rattle.block_ledger.specs.Judging.{stored_why};
 ghost use Rattle.signer_edge.specs.Accepts.{Accepts};
@@ -190,7 +189,7 @@ impl Ledger {
             (stands_for (V.accepts verifier.now) c (now (D.moments disk.new) 2).reads ≡ stands_for (V.accepts verifier.now) c (now (D.moments disk.old) 2).reads) }
         ensures tells { D.tells disk.new ≡ D.tells disk.old }
         ensures later { D.faults disk.old ≤ D.faults disk.new }
-        ensures failed { OnFailed result (Rose (D.faults disk.old) (D.faults disk.new)) }
+        ensures cause { OpenAnswers (D.tells disk.old) (D.faults disk.old) (D.faults disk.new) result }
     {
         let config = config_in(alloc, genesis)?;
         let log = GateLog::open(alloc, disk, LEDGER_FILE)?;

@@ -1,9 +1,12 @@
 pub mod Answers
 pub mod Entries
 pub mod Going
-pub mod Making
-pub mod Mapped
-pub mod Nodes
-pub mod Standing
-pub mod Waiting
+pub mod Lines
+pub mod Longest
 pub mod Lying
+pub mod Mapped
+pub mod Members
+pub mod Moves
+pub mod Sound
+pub mod Waiting
+pub mod Whereabouts

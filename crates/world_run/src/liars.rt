@@ -1,5 +1,5 @@
 //! What Byzantine members send and sign.
-ghost use Rattle.std.specs.Prelude.{◌≡◌, ◌<◌, IfOk, IfSome, OnOk, Some, codes, length, map, option_and_then, option_copied, slice_get, string_bytes, vec_len};
+ghost use Rattle.std.specs.Prelude.{◌≡◌, ◌<◌, IfOk, IfSome, List as Items, OnOk, Some, codes, length, option_and_then, slice_get, string_bytes, vec_len};
 ghost use Rattle.std.specs.Option.{option_map};
 ghost use Rattle.ord_types.specs.Lengths.{FitsRequest, FitsSig};
 ghost use Rattle.bft_wire.specs.Lengths.{FitsMessage};
@@ -25,16 +25,22 @@ ghost use Rattle.world_model.specs.Liars.{
 };
 ghost use Rattle.world_model.specs.Says.{refuses};
 ghost use Rattle.world_model.specs.Worlds as worlds;
-ghost use Rattle.world_run.specs.Nodes.{node_of};
+ghost use Rattle.world_model.specs.Worlds.{Outcome};
+ghost use Rattle.std.specs.List.{AllByRecursion};
+ghost use Rattle.view_core.specs.Places.{IsPlace};
+ghost use Rattle.bft_node.specs.Lodgings.{Lodging};
+ghost use Rattle.safety_model.specs.Blocks.{Config as SomeConfig};
+ghost use Rattle.world_run.specs.Longest.{IsLongest, IsMemberAt};
 ghost use Rattle.world_run.specs.Lying.{bar_between, bar_text, commit_of, prepare_of, statement_of, subject_of};
 
+use crate::member::Member;
 use crate::network::Entry;
-use crate::node::Node;
 use crate::pieces::{carried_cert, encoded, signed, spelled};
 use crate::texts::{put_lied, put_seal};
 use crate::world::World;
+use bft_node::Nodes;
 use bft_wire::{Commit, Message, PrePrepare, Prepare};
-use ord_types::{Bytes, Digest, List, NoMemory, Request, Sig, block_hash};
+use ord_types::{Bytes, Digest, List, NoMemory, Place, Request, Sig, block_hash};
 use script::VoteKind;
 use script_play::Ending;
 use signer_edge::commit_statement;
@@ -108,48 +114,56 @@ fn is_raft(alloc: Global, bytes: &[u8]) -> Result<bool, NoMemory>
     }
 }
 
-/// The node of the longest ledger, the first of equally long ones.
-fn longest(nodes: &[Node]) -> Option<&Node>
-    ensures { option_map node_of (option_copied result) ≡ longest (map node_of nodes.now) }
+/// The node of the longest ledger, the first of equally long ones. A stopped one has the ledger that its disk opens to.
+fn longest<N: Nodes>(nodes: &N, members: &[Member]) -> Option<u32>
+    requires { AllByRecursion (IsMemberAt (N.at nodes.now)) members.now }
+    ensures { (c : SomeConfig) → IsLongest c (N.at nodes.now) members.now result }
 {
-    let [node, rest @ ..] = nodes else {
+    let [member, rest @ ..] = members else {
         return None;
     };
-    match longest(rest) {
-        None => Some(node),
+    match longest(nodes, rest) {
+        None => Some(member.id),
         Some(other) => {
-            if node.ledger.len() < other.ledger.len() {
+            if nodes.node(member.id).ledger().height() < nodes.node(other).ledger().height() {
                 Some(other)
             } else {
-                Some(node)
+                Some(member.id)
             }
         }
     }
 }
 
-/// A proposal of one request on top of a node's ledger.
-fn proposal_on(alloc: Global, node: &Node, view: u64, request: Request) -> Result<Message, NoMemory>
-    requires { FitsRequest request }
-    ensures proposal { IfOk result (λ message. message ≡ proposal_of node.now.place view request) }
+/// A proposal of one request on top of a ledger that stands at this place.
+fn proposal_on(
+    alloc: Global,
+    place: &Place,
+    view: u64,
+    request: Request,
+) -> Result<Message, NoMemory>
+    requires place { IsPlace place.now }
+    requires request { FitsRequest request }
+    ensures proposal { IfOk result (λ message. message ≡ proposal_of place.now view request) }
     ensures fits { IfOk result FitsMessage }
 {
     let mut offer = List::new(alloc);
     offer.push(request)?;
     Ok(Message::PrePrepare(PrePrepare {
-        config: node.place.config.number,
+        config: place.config.number,
         view,
-        number: node.place.height,
-        block: proposal(alloc, &node.place, view, offer)?,
-        cert: carried_cert(&node.place)?,
+        number: place.height,
+        block: proposal(alloc, place, view, offer)?,
+        cert: carried_cert(place)?,
     }))
 }
 
 impl World {
     ghost use Rattle.world_run.specs.Mapped.{world_of};
+    ghost use Rattle.world_run.specs.Sound.{IsSound, KeepsNodes};
 
     /// Why an id may not send to another.
     pub(crate) fn bar(&self, from: u32, to: u32) -> Option<Bar>
-        ensures { result ≡ bar_between (world_of self.now) from to }
+        ensures { (lodged : Lodging) (later : Items Outcome) → result ≡ bar_between (world_of lodged self.now later) from to }
     {
         let members = self.config.members.as_slice();
         if !(members.contains(&from) && members.contains(&to)) {
@@ -164,7 +178,8 @@ impl World {
     /// Refuses a line by an id that may not send or sign.
     pub(crate) fn refuse_barred(&mut self, bar: Bar) -> Result<Option<Ending>, NoMemory>
         ensures ends { IfOk result (λ ending. IfSome ending EndsTurn) }
-        ensures turned { IfOk result (λ ending. Turned (refuses self.old.outside.number (bar_text bar) (world_of self.old)) (string_bytes self.old.outside.text) (string_bytes self.new.outside.text) (world_of self.new) ending) }
+        ensures turned { IfOk result (λ ending. (lodged : Lodging) (later : Items Outcome) → Turned (refuses self.old.outside.number (bar_text bar) (world_of lodged self.old later)) (string_bytes self.old.outside.text) (string_bytes self.new.outside.text) (world_of lodged self.new later) ending) }
+        ensures keeps { OnOk result (KeepsNodes self.old self.new) }
     {
         match bar {
             Bar::UnknownNode => self.refuse("unknown node"),
@@ -174,8 +189,8 @@ impl World {
 
     /// Adds an entry to the network.
     fn post(&mut self, from: u32, to: u32, bytes: Bytes) -> Result<(), NoMemory>
-        ensures sent { OnOk result (world_of self.new ≡ with_sent (world_of self.old) from to bytes) }
-        ensures number { OnOk result (self.new.outside.number ≡ self.old.outside.number) }
+        ensures sent { OnOk result ((lodged : Lodging) (later : Items Outcome) → world_of lodged self.new later ≡ with_sent (world_of lodged self.old later) from to bytes) }
+        ensures keeps { OnOk result (KeepsNodes self.old self.new) }
         ensures text { OnOk result (self.new.outside.text ≡ self.old.outside.text) }
     {
         let bytes = Rc::new(self.outside.alloc, bytes)?;
@@ -197,7 +212,8 @@ impl World {
         bytes: Bytes,
     ) -> Result<Option<Ending>, NoMemory>
         ensures ends { IfOk result (λ ending. IfSome ending EndsTurn) }
-        ensures turned { IfOk result (λ ending. Turned (sends self.old.outside.number word.now (world_of self.old) from to bytes) (string_bytes self.old.outside.text) (string_bytes self.new.outside.text) (world_of self.new) ending) }
+        ensures turned { IfOk result (λ ending. (lodged : Lodging) (later : Items Outcome) → Turned (sends self.old.outside.number word.now (world_of lodged self.old later) from to bytes) (string_bytes self.old.outside.text) (string_bytes self.new.outside.text) (world_of lodged self.new later) ending) }
+        ensures keeps { OnOk result (KeepsNodes self.old self.new) }
     {
         self.post(from, to, bytes)?;
         if let Some(ending) = self.within_limit()? {
@@ -209,31 +225,41 @@ impl World {
     }
 
     /// The bytes of a proposal of one request on top of the longest ledger. There is a node in every world.
-    fn proposal(&self, view: u64, request: Request) -> Result<Option<Bytes>, NoMemory>
-        requires { FitsRequest request }
-        ensures { IfOk result (λ bytes. bytes ≡ option_map (λ node. message_text (proposal_of node.state.place view request)) (longest (world_of self.now).nodes)) }
+    fn proposal<N: Nodes>(
+        &self,
+        nodes: &N,
+        view: u64,
+        request: Request,
+    ) -> Result<Option<Bytes>, NoMemory>
+        requires sound { IsSound (N.at nodes.now) self.now }
+        requires fits { FitsRequest request }
+        ensures { IfOk result (λ bytes. (later : Items Outcome) → bytes ≡ option_map (λ node. message_text (proposal_of node.state.core.place view request)) (longest (world_of (N.at nodes.now) self.now later).nodes)) }
     {
-        let Some(node) = longest(self.nodes.as_slice()) else {
+        let Some(id) = longest(nodes, self.members.as_slice()) else {
             return Ok(None);
         };
         let alloc = self.outside.alloc;
-        let message = proposal_on(alloc, node, view, request)?;
+        let place = nodes.node(id).ledger().place();
+        let message = proposal_on(alloc, place, view, request)?;
         Ok(Some(encoded(alloc, message)?))
     }
 
     /// Proposes a request on top of the longest ledger.
-    pub(crate) fn propose(
+    pub(crate) fn propose<N: Nodes>(
         &mut self,
+        nodes: &N,
         from: u32,
         to: u32,
         view: u64,
         request: Request,
     ) -> Result<Option<Ending>, NoMemory>
-        requires { FitsRequest request }
+        requires sound { IsSound (N.at nodes.now) self.old }
+        requires fits { FitsRequest request }
         ensures ends { IfOk result (λ ending. IfSome ending EndsTurn) }
-        ensures turned { IfOk result (λ ending. Turned (propose_turn core_setting self.old.outside.number (world_of self.old) from to view request) (string_bytes self.old.outside.text) (string_bytes self.new.outside.text) (world_of self.new) ending) }
+        ensures turned { IfOk result (λ ending. (later : Items Outcome) → Turned (propose_turn core_setting self.old.outside.number (world_of (N.at nodes.now) self.old later) from to view request) (string_bytes self.old.outside.text) (string_bytes self.new.outside.text) (world_of (N.at nodes.now) self.new later) ending) }
+        ensures keeps { OnOk result (KeepsNodes self.old self.new) }
     {
-        match self.proposal(view, request)? {
+        match self.proposal(nodes, view, request)? {
             None => self.refuse("no core"),
             Some(bytes) => self.send("byz-propose", from, to, bytes),
         }
@@ -241,10 +267,10 @@ impl World {
 
     /// Signs a statement for an id.
     fn sign(&mut self, id: u32, statement: &[u8]) -> Result<Sig, NoMemory>
-        ensures sig { IfOk result (λ sig. sig ≡ sig_at id (length (world_of self.old).seals)) }
+        ensures sig { IfOk result (λ sig. sig ≡ sig_at id (length self.old.outside.seat.seals)) }
         ensures fits { IfOk result FitsSig }
-        ensures world { OnOk result (world_of self.new ≡ with_signed (world_of self.old) id statement.now) }
-        ensures number { OnOk result (self.new.outside.number ≡ self.old.outside.number) }
+        ensures world { OnOk result ((lodged : Lodging) (later : Items Outcome) → world_of lodged self.new later ≡ with_signed (world_of lodged self.old later) id statement.now) }
+        ensures keeps { OnOk result (KeepsNodes self.old self.new) }
         ensures text { OnOk result (self.new.outside.text ≡ self.old.outside.text) }
     {
         self.give_seat(id)?;
@@ -260,7 +286,8 @@ impl World {
         subject: Subject,
     ) -> Result<Option<Ending>, NoMemory>
         ensures ends { IfOk result (λ ending. IfSome ending EndsTurn) }
-        ensures turned { IfOk result (λ ending. Turned (sends self.old.outside.number (codes "byz-vote") (world_of self.old) from to (message_text (prepare_of subject view))) (string_bytes self.old.outside.text) (string_bytes self.new.outside.text) (world_of self.new) ending) }
+        ensures turned { IfOk result (λ ending. (lodged : Lodging) (later : Items Outcome) → Turned (sends self.old.outside.number (codes "byz-vote") (world_of lodged self.old later) from to (message_text (prepare_of subject view))) (string_bytes self.old.outside.text) (string_bytes self.new.outside.text) (world_of lodged self.new later) ending) }
+        ensures keeps { OnOk result (KeepsNodes self.old self.new) }
     {
         let digest = subject.digest;
         let prepare = Prepare {
@@ -282,7 +309,8 @@ impl World {
         subject: Subject,
     ) -> Result<Option<Ending>, NoMemory>
         ensures ends { IfOk result (λ ending. IfSome ending EndsTurn) }
-        ensures turned { IfOk result (λ ending. Turned (sends self.old.outside.number (codes "byz-vote") (with_signed (world_of self.old) from (statement_of subject view)) from to (message_text (commit_of subject view (sig_at from (length (world_of self.old).seals))))) (string_bytes self.old.outside.text) (string_bytes self.new.outside.text) (world_of self.new) ending) }
+        ensures turned { IfOk result (λ ending. (lodged : Lodging) (later : Items Outcome) → Turned (sends self.old.outside.number (codes "byz-vote") (with_signed (world_of lodged self.old later) from (statement_of subject view)) from to (message_text (commit_of subject view (sig_at from (length (world_of lodged self.old later).seals))))) (string_bytes self.old.outside.text) (string_bytes self.new.outside.text) (world_of lodged self.new later) ending) }
+        ensures keeps { OnOk result (KeepsNodes self.old self.new) }
     {
         let digest = subject.digest;
         let statement = commit_statement(subject.config, view, subject.number, &digest);
@@ -309,7 +337,8 @@ impl World {
     ) -> Result<Option<Ending>, NoMemory>
         requires { at < vec_len self.old.outside.network }
         ensures ends { IfOk result (λ ending. IfSome ending EndsTurn) }
-        ensures turned { IfOk result (λ ending. (entry : worlds.Entry) → slice_get (world_of self.old).network at ≡ Some entry → Turned (vote_if self.old.outside.number (world_of self.old) from to kind view (proposed_in entry.bytes)) (string_bytes self.old.outside.text) (string_bytes self.new.outside.text) (world_of self.new) ending) }
+        ensures turned { IfOk result (λ ending. (lodged : Lodging) (later : Items Outcome) (entry : worlds.Entry) → slice_get (world_of lodged self.old later).network at ≡ Some entry → Turned (vote_if self.old.outside.number (world_of lodged self.old later) from to kind view (proposed_in entry.bytes)) (string_bytes self.old.outside.text) (string_bytes self.new.outside.text) (world_of lodged self.new later) ending) }
+        ensures keeps { OnOk result (KeepsNodes self.old self.new) }
     {
         let bytes = self.outside.network[at].bytes.as_ref().as_slice();
         match subject_in(self.outside.alloc, bytes)? {
@@ -331,7 +360,8 @@ impl World {
         entry: u64,
     ) -> Result<Option<Ending>, NoMemory>
         ensures ends { IfOk result (λ ending. IfSome ending EndsTurn) }
-        ensures turned { IfOk result (λ ending. Turned (vote_turn self.old.outside.number (world_of self.old) from to kind view (worlds.entry entry (world_of self.old))) (string_bytes self.old.outside.text) (string_bytes self.new.outside.text) (world_of self.new) ending) }
+        ensures turned { IfOk result (λ ending. (lodged : Lodging) (later : Items Outcome) → Turned (vote_turn self.old.outside.number (world_of lodged self.old later) from to kind view (worlds.entry entry (world_of lodged self.old later))) (string_bytes self.old.outside.text) (string_bytes self.new.outside.text) (world_of lodged self.new later) ending) }
+        ensures keeps { OnOk result (KeepsNodes self.old self.new) }
     {
         match self.place_of_entry(entry) {
             None => self.refuse("no entry"),
@@ -347,7 +377,8 @@ impl World {
         bytes: Bytes,
     ) -> Result<Option<Ending>, NoMemory>
         ensures ends { IfOk result (λ ending. IfSome ending EndsTurn) }
-        ensures turned { IfOk result (λ ending. Turned (lie_turn self.old.outside.number (world_of self.old) from to bytes) (string_bytes self.old.outside.text) (string_bytes self.new.outside.text) (world_of self.new) ending) }
+        ensures turned { IfOk result (λ ending. (lodged : Lodging) (later : Items Outcome) → Turned (lie_turn self.old.outside.number (world_of lodged self.old later) from to bytes) (string_bytes self.old.outside.text) (string_bytes self.new.outside.text) (world_of lodged self.new later) ending) }
+        ensures keeps { OnOk result (KeepsNodes self.old self.new) }
     {
         if is_raft(self.outside.alloc, bytes.as_slice())? {
             return self.refuse("raft message");
@@ -358,7 +389,8 @@ impl World {
     /// Signs bytes for an id.
     pub(crate) fn seal(&mut self, id: u32, bytes: &[u8]) -> Result<Option<Ending>, NoMemory>
         ensures ends { IfOk result (λ ending. IfSome ending EndsTurn) }
-        ensures turned { IfOk result (λ ending. Turned (seal_turn self.old.outside.number (world_of self.old) id bytes.now) (string_bytes self.old.outside.text) (string_bytes self.new.outside.text) (world_of self.new) ending) }
+        ensures turned { IfOk result (λ ending. (lodged : Lodging) (later : Items Outcome) → Turned (seal_turn self.old.outside.number (world_of lodged self.old later) id bytes.now) (string_bytes self.old.outside.text) (string_bytes self.new.outside.text) (world_of lodged self.new later) ending) }
+        ensures keeps { OnOk result (KeepsNodes self.old self.new) }
     {
         let place = self.outside.seat.sealed();
         self.sign(id, bytes)?;

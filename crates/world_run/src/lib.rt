@@ -1,9 +1,11 @@
 //! Plays the lines of a script on a simulated network.
 #![tactic(auto)]
 
+mod delivering;
+mod events;
 mod liars;
+mod member;
 mod network;
-mod node;
 mod pieces;
 mod pool;
 mod runner;

@@ -1,13 +1,10 @@
 //! The messages that were sent.
 ghost use Rattle.std.specs.Prelude.{◌≡◌, ◌++◌, OnOk, map};
-ghost use Rattle.bft_wire.specs.Lengths.{FitsMessage};
-ghost use Rattle.node_model.specs.Steps.{to_all};
-ghost use Rattle.world_model.specs.Worlds.{sent_by};
-ghost use Rattle.world_run.specs.Entries.{entry_of};
+ghost use Rattle.bft_node.specs.Making.{sent_of};
+ghost use Rattle.world_run.specs.Entries.{entry_of, posted};
 
-use bft_wire::{Message, encode};
+use bft_node::Post;
 use ord_types::{Bytes, NoMemory};
-use std::alloc::Global;
 use std::rc::Rc;
 
 /// The bytes of a message that was sent, and whether they have come to their receiver yet. A message to
@@ -20,30 +17,22 @@ pub(crate) struct Entry {
     pub(crate) came: bool,
 }
 
-/// Sends a message to all other members, in the members' order.
-pub(crate) fn send_to_all(
-    alloc: Global,
-    members: &[u32],
-    from: u32,
-    message: &Message,
+/// Adds what a step of a node sends.
+pub(crate) fn add_sends(
     network: &mut Vec<Entry>,
+    from: u32,
+    sends: &[Post],
 ) -> Result<(), NoMemory>
-    requires { FitsMessage message.now }
-    ensures { OnOk result (map entry_of network.new.items ≡ map entry_of network.old.items ++ sent_by from (to_all members.now from message.now)) }
+    ensures { OnOk result (map entry_of network.new.items ≡ map entry_of network.old.items ++ posted from (map sent_of sends.now)) }
 {
-    let mut bytes = Bytes::new(alloc);
-    encode(message, &mut bytes)?;
-    let shared = Rc::new(alloc, bytes)?;
-    for to in members {
-        if *to != from {
-            let bytes = shared.clone()?;
-            network.push(Entry {
-                from,
-                to: *to,
-                bytes,
-                came: false,
-            })?;
-        }
+    for post in sends {
+        let bytes = post.message.clone()?;
+        network.push(Entry {
+            from,
+            to: post.to,
+            bytes,
+            came: false,
+        })?;
     }
     Ok(())
 }

@@ -1,36 +1,17 @@
 //! What steps and lines share: places, certificates, signatures and messages.
 ghost use Rattle.std.specs.Prelude.{◌≡◌, IfOk, IfSome, OnOk};
-ghost use Rattle.ord_types.specs.Genesis.{IsGenesisConfig, genesis_block};
 ghost use Rattle.ord_types.specs.Lengths.{FitsCert, FitsSig};
 ghost use Rattle.bft_wire.specs.Lengths.{FitsMessage};
 ghost use Rattle.bft_wire.specs.Reading.{message_in};
 ghost use Rattle.bft_wire.specs.Spelling.{message_text};
 ghost use Rattle.node_model.specs.Acts.{carried_cert};
-ghost use Rattle.node_model.specs.Cores.{first_place};
 ghost use Rattle.signer_edge.specs.Seals.{next_sig, with_seal};
 ghost use Rattle.view_core.specs.Places.{IsPlace};
 
 use bft_wire::{Message, decode, encode};
-use ord_types::{Block, Bytes, Cert, Config, Copied, NoMemory, Place, ReadFault, Sig, block_hash};
+use ord_types::{Bytes, Cert, Copied, NoMemory, Place, ReadFault, Sig};
 use signer_edge::{SealSeat, SignFault, Signer};
 use std::alloc::Global;
-
-/// The place on the first block of a configuration.
-pub(crate) fn first_place(config: &Config, genesis: &Block) -> Result<Place, NoMemory>
-    requires config { IsGenesisConfig config.now }
-    requires genesis { genesis.now ≡ genesis_block config.now }
-    ensures place { IfOk result (λ place. place ≡ first_place config.now) }
-    ensures standing { IfOk result IsPlace }
-{
-    Ok(Place {
-        config: config.copy()?,
-        start: 1,
-        height: 1,
-        last: block_hash(&genesis.header),
-        last_meta: genesis.meta.copy()?,
-        last_cert: None,
-    })
-}
 
 /// The certificate that a proposal carries.
 pub(crate) fn carried_cert(place: &Place) -> Result<Option<Cert>, NoMemory>

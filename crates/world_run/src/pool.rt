@@ -1,9 +1,12 @@
 //! The waiting requests of a node.
-ghost use Rattle.std.specs.Prelude.{◌≡◌, IfOk, Ok};
-ghost use Rattle.safety_model.specs.Blocks.{is_ordinary};
+ghost use Rattle.std.specs.List.{flat_map};
+ghost use Rattle.std.specs.Prelude.{◌≡◌, IfOk, List as Items, Ok, map};
+ghost use Rattle.safety_model.specs.Blocks.{Request as SomeRequest, is_ordinary};
 ghost use Rattle.world_model.specs.Pools.{answer, entered, has_id, judged, offer, pool_after, settled};
 ghost use Rattle.world_run.specs.Answers.{answer_of};
+ghost use Rattle.bft_node.specs.declared.live.Done.{Done as SomeDone};
 
+use bft_node::Done;
 use ord_types::{Copied, List, NoMemory, ReadFault, ReqId, ReqKind, Request, whole_request};
 use std::alloc::Global;
 
@@ -76,9 +79,16 @@ pub(crate) fn offer(alloc: Global, pool: &[Request]) -> Result<List<Request>, No
     Ok(offer)
 }
 
-/// Drops the requests that were delivered.
-pub(crate) fn settle(pool: &mut Vec<Request>, delivered: &[Request])
-    ensures { pool.new.items ≡ settled delivered.now pool.old.items }
+/// Whether a request of this id was delivered.
+fn is_done(id: ReqId, done: &[Done]) -> bool
+    ensures { (delivered : Items SomeRequest) → flat_map (λ (block : SomeDone). block.ids) done.now ≡ map (λ r. r.id) delivered → result ≡ has_id id delivered }
 {
-    pool.retain(|request| !has_id(request.id, delivered));
+    done.iter().any(|block| block.ids.as_slice().contains(&id))
+}
+
+/// Drops the requests that were delivered.
+pub(crate) fn settle(pool: &mut Vec<Request>, done: &[Done])
+    ensures { (delivered : Items SomeRequest) → flat_map (λ (block : SomeDone). block.ids) done.now ≡ map (λ r. r.id) delivered → pool.new.items ≡ settled delivered pool.old.items }
+{
+    pool.retain(|request| !is_done(request.id, done));
 }

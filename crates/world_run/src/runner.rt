@@ -1,38 +1,53 @@
 //! Runs the commands of a script on a world.
-ghost use Rattle.std.specs.Prelude.{◌≡◌, ◌≤◌, IfOk, IfSome, None, Option, length, string_bytes};
-ghost use Rattle.std.specs.Option.{option_map};
+ghost use Rattle.std.specs.Prelude.{◌≡◌, ◌≤◌, ℕ, IfOk, IfSome, List as Items, None, OnOk, Option, Some, length, string_bytes};
 ghost use Rattle.ord_types.specs.Members.{how_many_in};
 ghost use Rattle.ord_types.specs.Spelling.{request_text};
 ghost use Rattle.script.specs.Commands.{AreIds, IsWellFormed};
 ghost use Rattle.script.specs.declared.command.Command.TheVariants as command_of;
 ghost use Rattle.script_play.specs.Turns.{EndsTurn, Turned};
-ghost use Rattle.node_model.specs.Cores.{Core};
+ghost use Rattle.node_model.specs.Restarts.{Returned};
 ghost use Rattle.world_model.specs.Cores.{core_setting};
-ghost use Rattle.world_model.specs.Turns.{at_node, closing_of, ordinary, submit_turn, turn_in, turn_of};
-ghost use Rattle.world_model.specs.Worlds as worlds;
+ghost use Rattle.world_model.specs.Stages.{Stage, stage_closing, stage_turn};
+ghost use Rattle.world_model.specs.Turns.{at_node, ordinary, submit_turn, turn_in};
+ghost use Rattle.world_model.specs.Worlds.{Outcome};
+ghost use Rattle.bft_node.specs.Lodgings.{Lodging, StaysAlike};
+ghost use Rattle.world_run.specs.Answers.{image_of};
+ghost use Rattle.world_run.specs.Going.{ByMoves, Plays};
+ghost use Rattle.world_run.specs.Lines.{ArmsBy, PlaysLine, decides, stage_at};
 ghost use Rattle.world_run.specs.Mapped.{world_of};
+ghost use Rattle.world_run.specs.Sound.{IsDecided, IsEmpty, IsSound, IsStanding, KeepsNodes};
 
+use crate::events::image_of;
 use crate::texts::{put_genesis, put_refused, put_sent};
-use crate::world::World;
+use crate::world::{Whereabouts, World};
+use bft_node::Nodes;
 use ord_types::{Bytes, List, NoMemory, ReqId, ReqKind, Request, fault_bound, put_request};
-use script::{Command, VoteKind};
+use script::{Command, Image, VoteKind};
 use script_play::{Ending, Machine, put_too_many_faulty};
 use std::alloc::Global;
 use std::mem;
 
-/// A world, once there is one.
+/// A world, once there is one, over nodes that stand somewhere.
 #[derive(Drop)]
-pub struct Runner {
+pub struct Runner<N: Nodes> {
     alloc: Global,
+    nodes: N,
     world: Option<World>,
 }
 
-impl Runner {
-    /// A runner before the first genesis.
-    pub fn new(alloc: Global) -> Runner
-        ensures { ⟦<Runner as Machine>⟧.world result ≡ None }
+impl<N: Nodes> Runner<N> {
+    /// A runner before the first genesis, over no nodes.
+    pub fn new(alloc: Global, nodes: N) -> Runner<N>
+        requires { IsEmpty (N.at nodes) }
+        ensures world { (later : Items Outcome) → stage_at (N.at result.nodes) result.world later ≡ stage_at (N.at nodes) None later }
+        ensures standing { IsStanding (N.at result.nodes) result.world }
+        ensures decided { IsDecided result.world }
     {
-        Runner { alloc, world: None }
+        Runner {
+            alloc,
+            nodes,
+            world: None,
+        }
     }
 
     /// A genesis makes the world. One with more Byzantine members than its bound ends the run.
@@ -44,9 +59,11 @@ impl Runner {
         text: &mut String,
     ) -> Result<Option<Ending>, NoMemory>
         requires none { self.old.world ≡ None }
+        requires empty { IsEmpty (N.at self.old.nodes) }
         requires ids { AreIds members }
+        ensures standing { OnOk result (IsStanding (N.at self.new.nodes) self.new.world) }
         ensures ends { IfOk result (λ ending. IfSome ending EndsTurn) }
-        ensures turned { IfOk result (λ ending. Turned (turn_of core_setting None number (command_of.Genesis members byzantine)) (string_bytes text.old) (string_bytes text.new) (option_map world_of self.new.world) ending) }
+        ensures plays { IfOk result (λ ending. PlaysLine (N.at self.old.nodes) (N.at self.new.nodes) self.old.world self.new.world (command_of.Genesis members byzantine) (λ stage. stage_turn core_setting stage number (command_of.Genesis members byzantine)) (string_bytes text.old) (string_bytes text.new) ending) }
     {
         let count = how_many_in(byzantine.as_slice(), members.as_slice());
         let bound = fault_bound(members.len() as u32);
@@ -59,7 +76,7 @@ impl Runner {
                 bound,
             }));
         }
-        let world = World::new(self.alloc, members, byzantine)?;
+        let world = World::new(self.alloc, &mut self.nodes, members, byzantine)?;
         put_genesis(text, number)?;
         self.world = Some(world);
         Ok(None)
@@ -73,15 +90,42 @@ impl Runner {
         text: &mut String,
     ) -> Result<Option<Ending>, NoMemory>
         requires none { self.old.world ≡ None }
+        requires empty { IsEmpty (N.at self.old.nodes) }
         requires formed { IsWellFormed command }
+        ensures standing { OnOk result (IsStanding (N.at self.new.nodes) self.new.world) }
         ensures ends { IfOk result (λ ending. IfSome ending EndsTurn) }
-        ensures turned { IfOk result (λ ending. Turned (turn_of core_setting None number command) (string_bytes text.old) (string_bytes text.new) (option_map world_of self.new.world) ending) }
+        ensures plays { IfOk result (λ ending. PlaysLine (N.at self.old.nodes) (N.at self.new.nodes) self.old.world self.new.world command (λ stage. stage_turn core_setting stage number command) (string_bytes text.old) (string_bytes text.new) ending) }
     {
         if let Command::Genesis { members, byzantine } = command {
             return self.open(number, members, byzantine, text);
         }
         put_refused(text, number, "no world")?;
         Ok(None)
+    }
+
+    /// Does what the command of this line asks, and adds its text. `Some` ends the run. What becomes of an event of a node
+    /// whose disk is armed is what this disk and the box of seals say; a `stop-at` line about a node that runs arms its disk.
+    pub fn line(
+        &mut self,
+        number: u64,
+        command: Command,
+        text: &mut String,
+    ) -> Result<Option<Ending>, NoMemory>
+        requires standing { IsStanding (N.at self.old.nodes) self.old.world }
+        requires formed { IsWellFormed command }
+        ensures standing { OnOk result (IsStanding (N.at self.new.nodes) self.new.world) }
+        ensures ends { IfOk result (λ ending. IfSome ending EndsTurn) }
+        ensures plays { IfOk result (λ ending. PlaysLine (N.at self.old.nodes) (N.at self.new.nodes) self.old.world self.new.world command (λ stage. stage_turn core_setting stage number command) (string_bytes text.old) (string_bytes text.new) ending) }
+        ensures arms { OnOk result (ArmsBy (N.at self.old.nodes) (N.at self.new.nodes) self.old.world command) }
+    {
+        let Some(world) = &mut self.world else {
+            return self.begin(number, command, text);
+        };
+        world.outside.number = number;
+        mem::swap(text, &mut world.outside.text);
+        let ending = turn_in(world, &mut self.nodes, command)?;
+        mem::swap(text, &mut world.outside.text);
+        Ok(ending)
     }
 }
 
@@ -123,13 +167,17 @@ fn submit_bytes(
     bytes: &[u8],
 ) -> Result<Option<Ending>, NoMemory>
     ensures ends { IfOk result (λ ending. IfSome ending EndsTurn) }
-    ensures turned { IfOk result (λ ending. Turned (at_node world.old.outside.number (world_of world.old) node (λ found. submit_turn world.old.outside.number word.now (world_of world.old) found bytes.now)) (string_bytes world.old.outside.text) (string_bytes world.new.outside.text) (world_of world.new) ending) }
+    ensures turned { IfOk result (λ ending. (lodged : Lodging) (later : Items Outcome) → Turned (at_node world.old.outside.number (world_of lodged world.old later) node (λ found. submit_turn world.old.outside.number word.now (world_of lodged world.old later) found bytes.now)) (string_bytes world.old.outside.text) (string_bytes world.new.outside.text) (world_of lodged world.new later) ending) }
+    ensures keeps { OnOk result (KeepsNodes world.old world.new) }
 {
-    let Some(place) = world.find(node) else {
-        return world.refuse_absent(node);
-    };
-    world.submit(node, place, word, bytes)?;
-    Ok(None)
+    match world.whereabouts(node) {
+        Whereabouts::Absent => world.refuse_absent(node),
+        Whereabouts::Stopped(_place) => world.refuse("stopped"),
+        Whereabouts::Running(place) => {
+            world.submit(node, place, word, bytes)?;
+            Ok(None)
+        }
+    }
 }
 
 fn submit(
@@ -139,50 +187,134 @@ fn submit(
     payload: Bytes,
 ) -> Result<Option<Ending>, NoMemory>
     ensures ends { IfOk result (λ ending. IfSome ending EndsTurn) }
-    ensures turned { IfOk result (λ ending. Turned (turn_in core_setting world.old.outside.number (world_of world.old) (command_of.Submit node id.client id.serial payload)) (string_bytes world.old.outside.text) (string_bytes world.new.outside.text) (world_of world.new) ending) }
+    ensures turned { IfOk result (λ ending. (lodged : Lodging) (later : Items Outcome) → Turned (turn_in core_setting world.old.outside.number (world_of lodged world.old later) (command_of.Submit node id.client id.serial payload)) (string_bytes world.old.outside.text) (string_bytes world.new.outside.text) (world_of lodged world.new later) ending) }
+    ensures keeps { OnOk result (KeepsNodes world.old world.new) }
 {
     let bytes = ordinary(world.outside.alloc, id, payload)?;
     submit_bytes(world, node, "submit", bytes.as_slice())
 }
 
-fn show(world: &mut World, node: u32, number: u64) -> Result<Option<Ending>, NoMemory>
+fn show<N: Nodes>(
+    world: &mut World,
+    nodes: &mut N,
+    node: u32,
+    number: u64,
+) -> Result<Option<Ending>, NoMemory>
+    requires sound { IsSound (N.at nodes.old) world.old }
+    ensures sound { OnOk result (IsSound (N.at nodes.new) world.new) }
     ensures ends { IfOk result (λ ending. IfSome ending EndsTurn) }
-    ensures turned { IfOk result (λ ending. Turned (turn_in core_setting world.old.outside.number (world_of world.old) (command_of.Show node number)) (string_bytes world.old.outside.text) (string_bytes world.new.outside.text) (world_of world.new) ending) }
+    ensures plays { IfOk result (λ ending. ByMoves (Unit {0}) (N.at nodes.old) (N.at nodes.new) world.old world.new (λ w to. Turned (turn_in core_setting world.old.outside.number w (command_of.Show node number)) (string_bytes world.old.outside.text) (string_bytes world.new.outside.text) to ending)) }
 {
-    let Some(place) = world.find(node) else {
-        return world.refuse_absent(node);
-    };
-    world.show(node, place, number)?;
-    Ok(None)
+    match world.whereabouts(node) {
+        Whereabouts::Absent => world.refuse_absent(node),
+        Whereabouts::Stopped(_place) => world.refuse("stopped"),
+        Whereabouts::Running(place) => {
+            world.show(nodes, place, number)?;
+            Ok(None)
+        }
+    }
 }
 
-fn tick(world: &mut World, node: u32, count: u32) -> Result<Option<Ending>, NoMemory>
+fn tick<N: Nodes>(
+    world: &mut World,
+    nodes: &mut N,
+    node: u32,
+    count: u32,
+) -> Result<Option<Ending>, NoMemory>
+    requires sound { IsSound (N.at nodes.old) world.old }
+    ensures sound { OnOk result (IsSound (N.at nodes.new) world.new) }
     ensures ends { IfOk result (λ ending. IfSome ending EndsTurn) }
-    ensures turned { IfOk result (λ ending. Turned (turn_in core_setting world.old.outside.number (world_of world.old) (command_of.Tick node count)) (string_bytes world.old.outside.text) (string_bytes world.new.outside.text) (world_of world.new) ending) }
+    ensures plays { IfOk result (λ ending. ByMoves (Unit {0}) (N.at nodes.old) (N.at nodes.new) world.old world.new (λ w to. Turned (turn_in core_setting world.old.outside.number w (command_of.Tick node count)) (string_bytes world.old.outside.text) (string_bytes world.new.outside.text) to ending)) }
 {
-    match world.find(node) {
-        None => world.refuse_absent(node),
-        Some(_) => world.ticks(node, count),
+    match world.whereabouts(node) {
+        Whereabouts::Absent => world.refuse_absent(node),
+        Whereabouts::Stopped(_place) => world.refuse("stopped"),
+        Whereabouts::Running(_place) => world.ticks(nodes, node, count),
+    }
+}
+
+/// A node stops between two events.
+fn stop<N: Nodes>(
+    world: &mut World,
+    nodes: &mut N,
+    node: u32,
+    image: Image,
+) -> Result<Option<Ending>, NoMemory>
+    requires sound { IsSound (N.at nodes.old) world.old }
+    ensures sound { OnOk result (IsSound (N.at nodes.new) world.new) }
+    ensures ends { IfOk result (λ ending. IfSome ending EndsTurn) }
+    ensures plays { IfOk result (λ ending. ByMoves (Unit {0}) (N.at nodes.old) (N.at nodes.new) world.old world.new (λ w to. Turned (turn_in core_setting world.old.outside.number w (command_of.Stop node image)) (string_bytes world.old.outside.text) (string_bytes world.new.outside.text) to ending)) }
+{
+    match world.whereabouts(node) {
+        Whereabouts::Absent => world.refuse_absent(node),
+        Whereabouts::Stopped(_place) => world.refuse("stopped"),
+        Whereabouts::Running(place) => {
+            world.stop(nodes, place, image_of(image))?;
+            Ok(None)
+        }
+    }
+}
+
+/// A node is to stop at a call of its disk.
+fn stop_at<N: Nodes>(
+    world: &mut World,
+    nodes: &mut N,
+    node: u32,
+    call: u32,
+    image: Image,
+) -> Result<Option<Ending>, NoMemory>
+    requires sound { IsSound (N.at nodes.old) world.old }
+    ensures sound { OnOk result (IsSound (N.at nodes.new) world.new) }
+    ensures ends { IfOk result (λ ending. IfSome ending EndsTurn) }
+    ensures plays { IfOk result (λ ending. ByMoves (⊥) (N.at nodes.old) (N.at nodes.new) world.old world.new (λ w to. Turned (turn_in core_setting world.old.outside.number w (command_of.StopAt node call image)) (string_bytes world.old.outside.text) (string_bytes world.new.outside.text) to ending)) }
+    ensures arms { OnOk result (ArmsBy (N.at nodes.old) (N.at nodes.new) (Some world.old) (command_of.StopAt node call image)) }
+{
+    match world.whereabouts(node) {
+        Whereabouts::Absent => world.refuse_absent(node),
+        Whereabouts::Stopped(_place) => world.refuse("stopped"),
+        Whereabouts::Running(place) => {
+            world.stop_at(nodes, place, call, image_of(image))?;
+            Ok(None)
+        }
+    }
+}
+
+/// A stopped node starts.
+fn start(world: &mut World, node: u32) -> Result<Option<Ending>, NoMemory>
+    ensures ends { IfOk result (λ ending. IfSome ending EndsTurn) }
+    ensures turned { IfOk result (λ ending. (lodged : Lodging) (later : Items Outcome) → Turned (turn_in core_setting world.old.outside.number (world_of lodged world.old later) (command_of.Start node)) (string_bytes world.old.outside.text) (string_bytes world.new.outside.text) (world_of lodged world.new later) ending) }
+    ensures keeps { OnOk result (KeepsNodes world.old world.new) }
+{
+    match world.whereabouts(node) {
+        Whereabouts::Absent => world.refuse_absent(node),
+        Whereabouts::Running(_place) => world.refuse("running"),
+        Whereabouts::Stopped(place) => {
+            world.start(place)?;
+            Ok(None)
+        }
     }
 }
 
 /// A Byzantine member proposes an ordinary request.
-fn propose(
+fn propose<N: Nodes>(
     world: &mut World,
+    nodes: &N,
     from: u32,
     to: u32,
     view: u64,
     id: ReqId,
     payload: Bytes,
 ) -> Result<Option<Ending>, NoMemory>
-    requires { length payload ≤ 65536 }
+    requires short { length payload ≤ 65536 }
+    requires sound { IsSound (N.at nodes.now) world.old }
+    ensures sound { OnOk result (IsSound (N.at nodes.now) world.new) }
     ensures ends { IfOk result (λ ending. IfSome ending EndsTurn) }
-    ensures turned { IfOk result (λ ending. Turned (turn_in core_setting world.old.outside.number (world_of world.old) (command_of.Propose from to view id.client id.serial payload)) (string_bytes world.old.outside.text) (string_bytes world.new.outside.text) (world_of world.new) ending) }
+    ensures plays { IfOk result (λ ending. ByMoves (Unit {0}) (N.at nodes.now) (N.at nodes.now) world.old world.new (λ w to. Turned (turn_in core_setting world.old.outside.number w (command_of.Propose from to view id.client id.serial payload)) (string_bytes world.old.outside.text) (string_bytes world.new.outside.text) to ending)) }
 {
     let kind = ReqKind::Ordinary;
     match world.bar(from, to) {
         Some(bar) => world.refuse_barred(bar),
-        None => world.propose(from, to, view, Request { kind, id, payload }),
+        None => world.propose(nodes, from, to, view, Request { kind, id, payload }),
     }
 }
 
@@ -196,7 +328,8 @@ fn vote(
     entry: u64,
 ) -> Result<Option<Ending>, NoMemory>
     ensures ends { IfOk result (λ ending. IfSome ending EndsTurn) }
-    ensures turned { IfOk result (λ ending. Turned (turn_in core_setting world.old.outside.number (world_of world.old) (command_of.Vote from to kind view entry)) (string_bytes world.old.outside.text) (string_bytes world.new.outside.text) (world_of world.new) ending) }
+    ensures turned { IfOk result (λ ending. (lodged : Lodging) (later : Items Outcome) → Turned (turn_in core_setting world.old.outside.number (world_of lodged world.old later) (command_of.Vote from to kind view entry)) (string_bytes world.old.outside.text) (string_bytes world.new.outside.text) (world_of lodged world.new later) ending) }
+    ensures keeps { OnOk result (KeepsNodes world.old world.new) }
 {
     match world.bar(from, to) {
         Some(bar) => world.refuse_barred(bar),
@@ -207,7 +340,8 @@ fn vote(
 /// A Byzantine member sends bytes.
 fn lie(world: &mut World, from: u32, to: u32, bytes: Bytes) -> Result<Option<Ending>, NoMemory>
     ensures ends { IfOk result (λ ending. IfSome ending EndsTurn) }
-    ensures turned { IfOk result (λ ending. Turned (turn_in core_setting world.old.outside.number (world_of world.old) (command_of.Lie from to bytes)) (string_bytes world.old.outside.text) (string_bytes world.new.outside.text) (world_of world.new) ending) }
+    ensures turned { IfOk result (λ ending. (lodged : Lodging) (later : Items Outcome) → Turned (turn_in core_setting world.old.outside.number (world_of lodged world.old later) (command_of.Lie from to bytes)) (string_bytes world.old.outside.text) (string_bytes world.new.outside.text) (world_of lodged world.new later) ending) }
+    ensures keeps { OnOk result (KeepsNodes world.old world.new) }
 {
     match world.bar(from, to) {
         Some(bar) => world.refuse_barred(bar),
@@ -218,7 +352,8 @@ fn lie(world: &mut World, from: u32, to: u32, bytes: Bytes) -> Result<Option<End
 /// A Byzantine member, or the administrator, who is 0, signs bytes.
 fn seal(world: &mut World, id: u32, bytes: &[u8]) -> Result<Option<Ending>, NoMemory>
     ensures ends { IfOk result (λ ending. IfSome ending EndsTurn) }
-    ensures turned { IfOk result (λ ending. Turned (turn_in core_setting world.old.outside.number (world_of world.old) (command_of.Seal id bytes.now)) (string_bytes world.old.outside.text) (string_bytes world.new.outside.text) (world_of world.new) ending) }
+    ensures turned { IfOk result (λ ending. (lodged : Lodging) (later : Items Outcome) → Turned (turn_in core_setting world.old.outside.number (world_of lodged world.old later) (command_of.Seal id bytes.now)) (string_bytes world.old.outside.text) (string_bytes world.new.outside.text) (world_of lodged world.new later) ending) }
+    ensures keeps { OnOk result (KeepsNodes world.old world.new) }
 {
     if id == 0 {
         return world.seal(id, bytes);
@@ -230,10 +365,17 @@ fn seal(world: &mut World, id: u32, bytes: &[u8]) -> Result<Option<Ending>, NoMe
 }
 
 /// Does what a command asks of a world.
-fn turn_in(world: &mut World, command: Command) -> Result<Option<Ending>, NoMemory>
-    requires { IsWellFormed command }
+fn turn_in<N: Nodes>(
+    world: &mut World,
+    nodes: &mut N,
+    command: Command,
+) -> Result<Option<Ending>, NoMemory>
+    requires formed { IsWellFormed command }
+    requires sound { IsSound (N.at nodes.old) world.old }
+    ensures sound { OnOk result (IsSound (N.at nodes.new) world.new) }
     ensures ends { IfOk result (λ ending. IfSome ending EndsTurn) }
-    ensures turned { IfOk result (λ ending. Turned (turn_in core_setting world.old.outside.number (world_of world.old) command) (string_bytes world.old.outside.text) (string_bytes world.new.outside.text) (world_of world.new) ending) }
+    ensures plays { IfOk result (λ ending. ByMoves (decides command) (N.at nodes.old) (N.at nodes.new) world.old world.new (λ w to. Turned (turn_in core_setting world.old.outside.number w command) (string_bytes world.old.outside.text) (string_bytes world.new.outside.text) to ending)) }
+    ensures arms { OnOk result (ArmsBy (N.at nodes.old) (N.at nodes.new) (Some world.old) command) }
 {
     match command {
         Command::Genesis {
@@ -247,10 +389,10 @@ fn turn_in(world: &mut World, command: Command) -> Result<Option<Ending>, NoMemo
             payload,
         } => submit(world, node, ReqId { client, serial }, payload),
         Command::Raw { node, bytes } => submit_bytes(world, node, "raw", bytes.as_slice()),
-        Command::Show { node, number } => show(world, node, number),
-        Command::Tick { node, count } => tick(world, node, count),
-        Command::Deliver { ranges } => world.deliver(ranges.as_slice()),
-        Command::Flush { only } => world.flush(&only),
+        Command::Show { node, number } => show(world, nodes, node, number),
+        Command::Tick { node, count } => tick(world, nodes, node, count),
+        Command::Deliver { ranges } => world.deliver(nodes, ranges.as_slice()),
+        Command::Flush { only } => world.flush(nodes, &only),
         Command::Propose {
             from,
             to,
@@ -258,7 +400,10 @@ fn turn_in(world: &mut World, command: Command) -> Result<Option<Ending>, NoMemo
             client,
             serial,
             payload,
-        } => propose(world, from, to, view, ReqId { client, serial }, payload),
+        } => {
+            let id = ReqId { client, serial };
+            propose(world, nodes, from, to, view, id, payload)
+        }
         Command::Vote {
             from,
             to,
@@ -268,17 +413,28 @@ fn turn_in(world: &mut World, command: Command) -> Result<Option<Ending>, NoMemo
         } => vote(world, from, to, kind, view, entry),
         Command::Lie { from, to, bytes } => lie(world, from, to, bytes),
         Command::Seal { id, bytes } => seal(world, id, bytes.as_slice()),
+        Command::Stop { node, image } => stop(world, nodes, node, image),
+        Command::StopAt { node, call, image } => stop_at(world, nodes, node, call, image),
+        Command::Start { node } => start(world, node),
     }
 }
 
-impl Machine for Runner {
-    ghost World = { Option (worlds.World Core (Unit {0})) };
+impl<N: Nodes> Machine for Runner<N> {
+    ghost World = { Stage Returned (Unit {0}) };
 
-    ghost world = { λ runner. option_map world_of runner.world };
+    ghost Choice = { Outcome };
 
-    ghost turn_of = { turn_of core_setting };
+    ghost world = { λ runner later. stage_at (N.at runner.nodes) runner.world later };
 
-    ghost closing_of = { closing_of core_setting };
+    ghost turn_of = { stage_turn core_setting };
+
+    ghost closing_of = { stage_closing core_setting };
+
+    ghost is_sound = { λ runner. IsStanding (N.at runner.nodes) runner.world };
+
+    ghost is_decided = { λ runner. IsDecided runner.world };
+
+    ghost decides = { decides };
 
     fn turn(
         &mut self,
@@ -286,19 +442,12 @@ impl Machine for Runner {
         command: Command,
         text: &mut String,
     ) -> Result<Option<Ending>, NoMemory> {
-        let Some(world) = &mut self.world else {
-            return self.begin(number, command, text);
-        };
-        world.outside.number = number;
-        mem::swap(text, &mut world.outside.text);
-        let ending = turn_in(world, command)?;
-        mem::swap(text, &mut world.outside.text);
-        Ok(ending)
+        self.line(number, command, text)
     }
 
     fn closing(&self, text: &mut String) -> Result<(), NoMemory> {
         match &self.world {
-            Some(world) => world.closing(text)?,
+            Some(world) => world.closing(&self.nodes, text)?,
             None => put_sent(text, 0)?,
         }
         Ok(())

@@ -1,44 +1,55 @@
 //! What a world says of itself: answers of pools, blocks, closing lines and refusals.
-ghost use Rattle.std.specs.Prelude.{◌≡◌, ◌==◌, ◌++◌, IfOk, IfSome, OnOk, Some, None, codes, length, position, string_bytes};
+ghost use Rattle.std.specs.Prelude.{◌≡◌, ◌++◌, IfOk, IfSome, List as Items, OnOk, Some, None, codes, slice_get, string_bytes};
+ghost use Rattle.safety_model.specs.Blocks.{Config as SomeConfig};
 ghost use Rattle.script_play.specs.Turns.{EndsTurn, Turned};
-ghost use Rattle.node_model.specs.Cores.{Core, core_ways};
+ghost use Rattle.node_model.specs.Restarts.{returned_ways};
 ghost use Rattle.world_model.specs.Cores.{core_setting};
 ghost use Rattle.world_model.specs.Says.{refuses};
 ghost use Rattle.world_model.specs.Texts.{closing_line};
 ghost use Rattle.world_model.specs.Turns.{absence, closing_of, closing_of_member, show_turn, submit_turn};
 ghost use Rattle.world_model.specs.Worlds as worlds;
-ghost use Rattle.world_run.specs.Nodes.{node_of};
+ghost use Rattle.world_model.specs.Worlds.{Outcome};
+ghost use Rattle.bft_node.specs.Lodgings.{Lodging, StaysAlike};
+ghost use Rattle.bft_node.specs.declared.lodged.Lodged.{Lodged};
+ghost use Rattle.world_run.specs.Members.{node_of};
+ghost use Rattle.world_run.specs.declared.member.Member.{Member as SomeMember};
 
-use crate::node::Node;
 use crate::pool::submit;
-use crate::texts::{put_answer, put_byzantine, put_node, put_refused, put_sent, put_show};
-use crate::world::World;
+use crate::texts::{
+    put_answer, put_byzantine, put_closed, put_node, put_refused, put_sent, put_show,
+};
+use crate::world::{Whereabouts, World};
+use bft_node::{Node, Nodes};
 use ord_types::NoMemory;
 use script_play::Ending;
 use std::alloc::AllocError;
 
-/// The closing line of a node.
-fn put_closing(text: &mut String, node: &Node) -> Result<(), AllocError>
-    ensures { OnOk result (string_bytes text.new ≡ string_bytes text.old ++ closing_line core_ways (node_of node.now)) }
+/// The closing line of a node that runs.
+fn put_running(text: &mut String, id: u32, node: &Node) -> Result<(), AllocError>
+    ensures { OnOk result ((c : SomeConfig) (at : Lodging) (l : Lodged) (member : SomeMember) → member.id ≡ id → at id ≡ Some l → l.node ≡ node.now →
+        string_bytes text.new ≡ string_bytes text.old ++ closing_line returned_ways (node_of c at member)) }
 {
-    let config = node.place.config.number;
+    let place = node.ledger().place();
+    let view = node.view();
     put_node(
         text,
-        node.id,
-        node.place.height,
-        config,
-        node.view.view(),
-        node.view.left(),
+        id,
+        place.height,
+        place.config.number,
+        view.view(),
+        view.left(),
     )
 }
 
 impl World {
     ghost use Rattle.world_run.specs.Mapped.{world_of};
+    ghost use Rattle.world_run.specs.Sound.{IsSound, KeepsNodes};
 
     /// Refuses a line for this reason.
     pub(crate) fn refuse(&mut self, reason: &str) -> Result<Option<Ending>, NoMemory>
         ensures ends { IfOk result (λ ending. IfSome ending EndsTurn) }
-        ensures turned { IfOk result (λ ending. Turned (refuses self.old.outside.number reason.now (world_of self.old)) (string_bytes self.old.outside.text) (string_bytes self.new.outside.text) (world_of self.new) ending) }
+        ensures turned { IfOk result (λ ending. (lodged : Lodging) (later : Items Outcome) → Turned (refuses self.old.outside.number reason.now (world_of lodged self.old later)) (string_bytes self.old.outside.text) (string_bytes self.new.outside.text) (world_of lodged self.new later) ending) }
+        ensures keeps { OnOk result (KeepsNodes self.old self.new) }
     {
         put_refused(&mut self.outside.text, self.outside.number, reason)?;
         Ok(None)
@@ -47,7 +58,8 @@ impl World {
     /// Refuses a line about a node that isn't in the world, or about a Byzantine member.
     pub(crate) fn refuse_absent(&mut self, id: u32) -> Result<Option<Ending>, NoMemory>
         ensures ends { IfOk result (λ ending. IfSome ending EndsTurn) }
-        ensures turned { IfOk result (λ ending. Turned (refuses self.old.outside.number (absence (world_of self.old) id) (world_of self.old)) (string_bytes self.old.outside.text) (string_bytes self.new.outside.text) (world_of self.new) ending) }
+        ensures turned { IfOk result (λ ending. (lodged : Lodging) (later : Items Outcome) → Turned (refuses self.old.outside.number (absence (world_of lodged self.old later) id) (world_of lodged self.old later)) (string_bytes self.old.outside.text) (string_bytes self.new.outside.text) (world_of lodged self.new later) ending) }
+        ensures keeps { OnOk result (KeepsNodes self.old self.new) }
     {
         if self.config.members.as_slice().contains(&id) {
             self.refuse("no core")
@@ -64,13 +76,14 @@ impl World {
         word: &str,
         bytes: &[u8],
     ) -> Result<(), NoMemory>
-        requires { position (λ node. node.id == to) self.old.nodes.items ≡ Some place }
-        ensures turned { OnOk result ((node : worlds.Node Core) → worlds.node_at to (world_of self.old).nodes ≡ Some node → Turned (submit_turn self.old.outside.number word.now (world_of self.old) node bytes.now) (string_bytes self.old.outside.text) (string_bytes self.new.outside.text) (world_of self.new) None) }
-        ensures number { OnOk result (self.new.outside.number ≡ self.old.outside.number) }
+        requires { (member : SomeMember) × (slice_get self.old.members.items place ≡ Some member) × (member.id ≡ to) }
+        ensures turned { OnOk result ((lodged : Lodging) (later : Items Outcome) (member : SomeMember) → slice_get self.old.members.items place ≡ Some member →
+            Turned (submit_turn self.old.outside.number word.now (world_of lodged self.old later) (node_of self.old.config lodged member) bytes.now) (string_bytes self.old.outside.text) (string_bytes self.new.outside.text) (world_of lodged self.new later) None) }
+        ensures keeps { OnOk result (KeepsNodes self.old self.new) }
     {
         let alloc = self.outside.alloc;
-        let node = &mut self.nodes[place];
-        let answer = submit(alloc, &mut node.pool, bytes)?;
+        let member = &mut self.members[place];
+        let answer = submit(alloc, &mut member.pool, bytes)?;
         put_answer(
             &mut self.outside.text,
             self.outside.number,
@@ -82,37 +95,55 @@ impl World {
     }
 
     /// Shows the block of this number in a node's ledger.
-    pub(crate) fn show(&mut self, id: u32, place: usize, number: u64) -> Result<(), NoMemory>
-        requires { position (λ node. node.id == id) self.old.nodes.items ≡ Some place }
-        ensures turned { OnOk result ((node : worlds.Node Core) → worlds.node_at id (world_of self.old).nodes ≡ Some node → Turned (show_turn self.old.outside.number (world_of self.old) node number) (string_bytes self.old.outside.text) (string_bytes self.new.outside.text) (world_of self.new) None) }
-        ensures number { OnOk result (self.new.outside.number ≡ self.old.outside.number) }
+    pub(crate) fn show<N: Nodes>(
+        &mut self,
+        nodes: &mut N,
+        place: usize,
+        number: u64,
+    ) -> Result<(), NoMemory>
+        requires sound { IsSound (N.at nodes.old) self.old }
+        requires there { (member : SomeMember) × (slice_get self.old.members.items place ≡ Some member) }
+        ensures turned { OnOk result ((later : Items Outcome) (member : SomeMember) → slice_get self.old.members.items place ≡ Some member →
+            Turned (show_turn self.old.outside.number (world_of (N.at nodes.old) self.old later) (node_of self.old.config (N.at nodes.old) member) number) (string_bytes self.old.outside.text) (string_bytes self.new.outside.text) (world_of (N.at nodes.old) self.new later) None) }
+        ensures same { StaysAlike (N.at nodes.old) (N.at nodes.new) }
+        ensures keeps { OnOk result (KeepsNodes self.old self.new) }
     {
+        let id = self.members[place].id;
         let line = self.outside.number;
         let text = &mut self.outside.text;
-        match self.nodes[place].stored(number) {
-            None => put_refused(text, line, "no block")?,
-            Some(stored) => put_show(text, line, id, &stored.0, &stored.1)?,
+        match nodes.get(id, number) {
+            Ok(None) => put_refused(text, line, "no block")?,
+            Ok(Some((block, proof))) => put_show(text, line, id, &block, &proof)?,
+            Err(_) => return Err(NoMemory),
         }
         Ok(())
     }
 
     /// The closing line of a member.
-    fn closing_of(&self, id: u32, text: &mut String) -> Result<(), AllocError>
-        ensures { OnOk result (string_bytes text.new ≡ string_bytes text.old ++ closing_of_member core_setting id (worlds.node_at id (world_of self.now).nodes)) }
+    fn closing_of<N: Nodes>(
+        &self,
+        nodes: &N,
+        id: u32,
+        text: &mut String,
+    ) -> Result<(), AllocError>
+        requires { IsSound (N.at nodes.now) self.now }
+        ensures { OnOk result ((later : Items Outcome) → string_bytes text.new ≡ string_bytes text.old ++ closing_of_member core_setting id (worlds.node_at id (world_of (N.at nodes.now) self.now later).nodes)) }
     {
-        match self.find(id) {
-            None => put_byzantine(text, id),
-            Some(place) => put_closing(text, &self.nodes[place]),
+        match self.whereabouts(id) {
+            Whereabouts::Absent => put_byzantine(text, id),
+            Whereabouts::Stopped(_place) => put_closed(text, id),
+            Whereabouts::Running(_place) => put_running(text, id, nodes.node(id)),
         }
     }
 
     /// The closing lines, by the members' order.
     #[tactic(auto, unfolding(world_model::specs::Turns::closing_of))]
-    pub(crate) fn closing(&self, text: &mut String) -> Result<(), NoMemory>
-        ensures { OnOk result (string_bytes text.new ≡ string_bytes text.old ++ closing_of core_setting (Some (world_of self.now))) }
+    pub(crate) fn closing<N: Nodes>(&self, nodes: &N, text: &mut String) -> Result<(), NoMemory>
+        requires { IsSound (N.at nodes.now) self.now }
+        ensures { OnOk result ((later : Items Outcome) → string_bytes text.new ≡ string_bytes text.old ++ closing_of core_setting (Some (world_of (N.at nodes.now) self.now later))) }
     {
         for id in self.config.members.as_slice() {
-            self.closing_of(*id, text)?;
+            self.closing_of(nodes, *id, text)?;
         }
         put_sent(text, self.outside.network.len())?;
         Ok(())

@@ -12,7 +12,9 @@ ghost use Rattle.world_model.specs.Texts.{
   block_text,
   block_told,
   byzantine_text,
+  closed_text,
   deliver_text,
+  fact_text,
   flush_text,
   first_id_text,
   genesis_text,
@@ -32,6 +34,9 @@ ghost use Rattle.world_model.specs.Texts.{
   seal_text,
   sent_text,
   show_text,
+  start_text,
+  stop_at_text,
+  stopped_text,
   signers_text,
   tick_text,
   view_text,
@@ -41,6 +46,7 @@ ghost use Rattle.world_run.specs.Answers.{answer_of};
 use crate::pool::Answer;
 use hex::encode;
 use ord_types::{Block, Cert, Digest, Proof, ReqId, Request, Sig, block_hash};
+use safety_model::Fact;
 use std::alloc::AllocError;
 
 #[tactic(auto, unfolding(world_model::specs::Texts::genesis_text))]
@@ -83,6 +89,28 @@ pub(crate) fn put_limit(text: &mut String, number: u64, limit: u64) -> Result<()
     ensures { OnOk result (string_bytes text.new ≡ string_bytes text.old ++ limit_text number limit) }
 {
     write!(text, "{number} limit {limit}\n")
+}
+
+/// A node is stopped, by a line or by its disk.
+#[tactic(auto, unfolding(world_model::specs::Texts::stopped_text))]
+pub(crate) fn put_stopped(text: &mut String, number: u64, node: u32) -> Result<(), AllocError>
+    ensures { OnOk result (string_bytes text.new ≡ string_bytes text.old ++ stopped_text number node) }
+{
+    write!(text, "{number} stopped {node}\n")
+}
+
+#[tactic(auto, unfolding(world_model::specs::Texts::stop_at_text))]
+pub(crate) fn put_stop_at(text: &mut String, number: u64, node: u32) -> Result<(), AllocError>
+    ensures { OnOk result (string_bytes text.new ≡ string_bytes text.old ++ stop_at_text number node) }
+{
+    write!(text, "{number} stop-at {node}\n")
+}
+
+#[tactic(auto, unfolding(world_model::specs::Texts::start_text))]
+pub(crate) fn put_start(text: &mut String, number: u64, node: u32) -> Result<(), AllocError>
+    ensures { OnOk result (string_bytes text.new ≡ string_bytes text.old ++ start_text number node) }
+{
+    write!(text, "{number} start {node}\n")
 }
 
 /// What a Byzantine member sent, by a line that begins with this word: the number of the entry.
@@ -290,7 +318,7 @@ fn put_block_told(
 }
 
 /// The line of a delivered block.
-pub(crate) fn put_block(
+fn put_block(
     text: &mut String,
     number: u64,
     node: u32,
@@ -301,6 +329,30 @@ pub(crate) fn put_block(
 {
     put_block_told(text, number, node, block, proof)?;
     put_line_end(text)
+}
+
+/// The line of a fact: a delivery has one.
+fn put_fact(text: &mut String, number: u64, fact: &Fact) -> Result<(), AllocError>
+    ensures { OnOk result (string_bytes text.new ≡ string_bytes text.old ++ fact_text number fact.now) }
+{
+    match fact {
+        Fact::Delivered {
+            member,
+            block,
+            proof,
+        } => put_block(text, number, *member, block, proof),
+        _ => Ok(()),
+    }
+}
+
+/// The lines of the blocks that are delivered among these facts.
+pub(crate) fn put_facts(text: &mut String, number: u64, facts: &[Fact]) -> Result<(), AllocError>
+    ensures { OnOk result (string_bytes text.new ≡ string_bytes text.old ++ flat_map (fact_text number) facts.now) }
+{
+    for fact in facts {
+        put_fact(text, number, fact)?;
+    }
+    Ok(())
 }
 
 #[tactic(auto, unfolding(world_model::specs::Texts::hash_front))]
@@ -342,6 +394,14 @@ pub(crate) fn put_node(
         text,
         "node {id} height {height} config {config} view {view} left {left}\n"
     )
+}
+
+/// The closing line of a stopped node.
+#[tactic(auto, unfolding(world_model::specs::Texts::closed_text))]
+pub(crate) fn put_closed(text: &mut String, id: u32) -> Result<(), AllocError>
+    ensures { OnOk result (string_bytes text.new ≡ string_bytes text.old ++ closed_text id) }
+{
+    write!(text, "node {id} stopped\n")
 }
 
 /// The closing line of a Byzantine member.

@@ -1,0 +1,92 @@
+-- A deed that is made durable and told, in a step so far.
+use Rattle.std.proofs.Common.{◌≡◌, ℕ, Bool, List, [], ◌∷◌, ◌++◌, IsTrue, refl, sym, ap, subst, ◌∙◌}
+use Rattle.std.specs.List.{flat_map}
+use Rattle.ord_types.specs.Grammar.{IsNumber}
+use Rattle.ord_types.specs.Hashes.{block_hash}
+use Rattle.ord_types.specs.declared.values.Block.{Block}
+use Rattle.ord_types.specs.declared.values.Config.{Config}
+use Rattle.ord_types.specs.declared.values.Place.{Place}
+use Rattle.gate_log.specs.Disk.{State}
+use Rattle.gate_log.specs.Runs.{Went}
+use Rattle.safety_model.specs.declared.fact.Fact.{Fact}
+use Rattle.safety_model.specs.declared.fact.Fact.TheVariants.{Accepted}
+use Rattle.signer_edge.specs.Accepts.{Accepts as Accepting}
+use Rattle.signer_edge.specs.Signing.{KeepsAccepted}
+use Rattle.block_ledger.specs.Chains.{Entry, IsChain}
+use Rattle.block_ledger.specs.Places.{place_after}
+use Rattle.block_ledger.proofs.Linking.{chain_stays}
+use Rattle.node_model.specs.declared.act.Act.{Act}
+use Rattle.node_model.specs.Acts.{View}
+use Rattle.node_model.specs.Deeds.{Deed, Accepts, Prepares, acceptance, fact_of, preparation}
+use Rattle.view_core.specs.Places.{IsPlace, StandsAt}
+use Rattle.bft_node.specs.Crashes.{Within}
+use Rattle.bft_node.specs.Held.{Held, with_deed, with_deeds}
+use Rattle.bft_node.specs.Keeping.{Keeps, KeepsWithin}
+use Rattle.bft_node.specs.Making.{Before, BeganOnChain, Makes, Step, around, done_by}
+use Rattle.bft_node.specs.Running.{IsReady, IsSound, place_of}
+use Rattle.bft_node.specs.Stores.{IsKept, config_of, held_of}
+use Rattle.bft_node.specs.declared.live.Done.{Done}
+use Rattle.bft_node.specs.declared.live.Out.{Out}
+use Rattle.bft_node.specs.declared.live.Running.{Running}
+use Rattle.bft_node.proofs.Running.{runs_go_on}
+use Rattle.bft_node.proofs.MakingLemmas.{flat_map-one, with_deeds-append}
+
+-- WHERE A NODE STANDS
+
+pub same_preparation : (r : Running) (i v : ℕ) (p : Place) (d : List ℕ) → i ≡ r.view.me → p ≡ place_of r → v ≡ r.view.view → Prepares i p.config.number v p.height d ≡ preparation (place_of r) r.view d
+same_preparation r i v p d me here view =
+    ap (λ j. Prepares j p.config.number v p.height d) me ∙ ap (λ (q : Place). Prepares r.view.me q.config.number v q.height d) here
+    ∙ ap (λ n. Prepares r.view.me (place_of r).config.number n (place_of r).height d) view
+
+pub same_acceptance : (r : Running) (i v : ℕ) (p : Place) (b : Block) → i ≡ r.view.me → p ≡ place_of r → v ≡ r.view.view → Accepts i p.config.number v p.height b ≡ acceptance (place_of r) r.view b
+same_acceptance r i v p b me here view =
+    ap (λ j. Accepts j p.config.number v p.height b) me ∙ ap (λ (q : Place). Accepts r.view.me q.config.number v q.height b) here
+    ∙ ap (λ n. Accepts r.view.me (place_of r).config.number n (place_of r).height b) view
+
+pub accepted_fact : (r : Running) (i v : ℕ) (p : Place) (b : Block) (d : List ℕ) → i ≡ r.view.me → p ≡ place_of r → v ≡ r.view.view → d ≡ block_hash b → Accepted i p.config.number v p.height d ≡ fact_of (acceptance (place_of r) r.view b)
+accepted_fact r i v p b d me here view hash =
+    ap (λ h. Accepted i p.config.number v p.height h) hash ∙ ap fact_of (same_acceptance r i v p b me here view)
+
+pub same_place : (r new : Running) → config_of new.store ≡ config_of r.store → (held_of new.store).blocks ≡ (held_of r.store).blocks → place_of new ≡ place_of r
+same_place r new config blocks = ap (λ (c : Config). place_after c (held_of new.store).blocks) config ∙ ap (λ (l : List Entry). place_after (config_of r.store) l) blocks
+
+pub still_sound : (r new : Running) → new.id ≡ r.id → new.view ≡ r.view → place_of new ≡ place_of r → IsSound r → IsSound new
+still_sound r new id view place s =
+    record {
+      me = ap (λ (w : View). w.me) view ∙ s.me ∙ sym id;
+      place = subst IsPlace (sym place) s.place;
+      at = subst (λ (w : View). StandsAt (place_of new) w) (sym view) (subst (λ (p : Place). StandsAt p r.view) (sym place) s.at);
+      config = subst (λ (p : Place). IsNumber p.config.number) (sym place) s.config;
+      view = subst (λ (w : View). IsNumber w.view) (sym view) s.view;
+    }
+
+-- for a judge who accepts at least as much, from what holds for each who finds a chain
+pub keeps_within : (deed : Deed) (r : Running) (tells : Bool) (before after : List State)
+    → ((judge : Accepting) → IsTrue tells → IsChain judge (config_of r.store) (held_of r.store).blocks → Went (Within judge (config_of r.store) (deed ∷ []) (held_of r.store)) before after)
+    → (accepts : Accepting) → KeepsWithin deed r accepts tells before after
+keeps_within deed r tells before after went accepts judge keeps chain told =
+    went judge told (chain_stays accepts judge (config_of r.store) (held_of r.store).blocks keeps chain)
+
+-- IN A STEP SO FAR, where the deed is the definition's
+
+module _ (b : Before) (m : Step) (told : Act) (r : Running) (accepts : Accepting) (tells : Bool) (moments after : List State) (out : Out) (deed next : Deed) (same : deed ≡ next) (h : Makes b m told r (around accepts tells moments out)) where
+  pub kept_went : KeepsWithin deed r accepts tells moments after → BeganOnChain b → (judge : Accepting) → KeepsAccepted accepts judge → IsTrue tells → Went (Within judge b.config (m.state.deeds ++ next ∷ []) b.held) b.moments after
+  kept_went w began judge keeps t =
+      let chain : IsChain accepts (config_of r.store) (held_of r.store).blocks = subst (λ (c : Config). IsChain accepts c (held_of r.store).blocks) (sym h.config) (h.chain began) in
+      let here = w judge keeps chain t in
+      let by_config = subst (λ (c : Config). Went (Within judge c (deed ∷ []) (held_of r.store)) moments after) h.config here in
+      let by_deed = subst (λ (d : Deed). Went (Within judge b.config (d ∷ []) (held_of r.store)) moments after) same by_config in
+      let by_held = subst (λ (x : Held). Went (Within judge b.config (next ∷ []) x) moments after) h.held by_deed in
+      runs_go_on judge b.config m.state.deeds (next ∷ []) b.held b.moments moments after (h.went began judge keeps t) by_held
+
+  module _ (new : Running) (last : Out) (k : Keeps deed r new out last) where
+    pub kept_held : held_of new.store ≡ with_deeds (m.state.deeds ++ next ∷ []) b.held
+    kept_held = k.held ∙ ap (λ (x : Held). with_deed deed x) h.held ∙ ap (λ (d : Deed). with_deed d (with_deeds m.state.deeds b.held)) same ∙ sym (with_deeds-append m.state.deeds (next ∷ []) b.held)
+
+    pub kept_facts : last.facts ≡ m.facts ++ fact_of next ∷ []
+    kept_facts = k.facts ∙ ap (λ (l : List Fact). l ++ fact_of deed ∷ []) h.facts ∙ ap (λ (d : Deed). m.facts ++ fact_of d ∷ []) same
+
+    pub kept_done : last.done ≡ flat_map done_by (m.facts ++ fact_of next ∷ [])
+    kept_done =
+        k.done ∙ ap (λ (l : List Done). l ++ done_by (fact_of deed)) h.done ∙ ap (λ (d : Deed). flat_map done_by m.facts ++ done_by (fact_of d)) same
+        ∙ sym (flat_map-one done_by m.facts (fact_of next))

@@ -1,0 +1,53 @@
+use Rattle.std.proofs.Common.{◌++◌, [], List, ap, map, refl, subst, sym, ◌∙◌}
+use Rattle.std.proofs.lemmas.Result.{IfOk-weaker}
+use Rattle.ord_types.specs.declared.values.Block.{Block}
+use Rattle.node_model.specs.Deeds.{acceptance}
+use Rattle.node_model.specs.declared.act.Act.TheVariants as act_of
+use Rattle.node_model.specs.Steps as steps
+use Rattle.node_model.specs.Steps.{makes_accepted}
+use Rattle.bft_node.specs.Keeping.{Keeps}
+use Rattle.bft_node.specs.Making.{node_ways, sent_of, text_of}
+use Rattle.bft_node.specs.Running.{place_of}
+use Rattle.bft_node.proofs.ActLemmas.{accepted_stopped, alone, alone_posts, extends_accepted, makes_accepted_sent, of_copy}
+use Rattle.bft_node.proofs.MakingLemmas.{given_up, makes_tells, stopped}
+use Rattle.bft_node.proofs.live.Running.accept.Goals as goal
+
+pub returns-in_err-accepted-clause-makes : goal.returns-in_err-accepted-clause-makes
+returns-in_err-accepted-clause-makes g c = λ b m h.
+    given_up c.from_residual.result _ _ _ c.from_residual.ensures.1 (stopped b m _ _ _ _ (extends_accepted m c.args.block []) h)
+
+pub returns-in_err-keep_acceptance-clause-makes : goal.returns-in_err-keep_acceptance-clause-makes
+returns-in_err-keep_acceptance-clause-makes g c = λ b m h.
+    let r = c.args.self.now in
+    given_up c.from_residual-in_err-keep_acceptance.result _ _ _ c.from_residual-in_err-keep_acceptance.ensures.1
+    (accepted_stopped b m c.args.block alone (λ p w. refl) r _ _ _ _ c.args.out.now h
+    (of_copy (λ (x : Block). acceptance (place_of r) r.view x) c.in_ok-accepted.accepted c.args.block r _ _ _ _ c.in_ok-accepted.ensures (c.keep_acceptance.ensures.any_moment _)))
+
+pub returns-in_err-send_prepare-clause-makes : goal.returns-in_err-send_prepare-clause-makes
+returns-in_err-send_prepare-clause-makes g c = λ b m h.
+    let r = c.args.self.now in
+    given_up c.from_residual-in_err-send_prepare.result _ _ _ c.from_residual-in_err-send_prepare.ensures.1
+    (accepted_stopped b m c.args.block alone (λ p w. refl) r _ _ _ _ c.args.out.now h
+    (of_copy (λ (x : Block). acceptance (place_of r) r.view x) c.in_ok-accepted.accepted c.args.block r _ _ _ _ c.in_ok-accepted.ensures (c.keep_acceptance.ensures.any_moment _)))
+
+pub returns-in_err-told-clause-makes : goal.returns-in_err-told-clause-makes
+returns-in_err-told-clause-makes g c = λ b m h.
+    let r = c.args.self.now in
+    given_up c.from_residual-in_err-told.result _ _ _ c.from_residual-in_err-told.ensures.1
+    (accepted_stopped b m c.args.block alone (λ p w. refl) r _ _ _ _ c.args.out.now h
+    (of_copy (λ (x : Block). acceptance (place_of r) r.view x) c.in_ok-accepted.accepted c.args.block r _ _ _ _ c.in_ok-accepted.ensures (c.keep_acceptance.ensures.any_moment _)))
+
+pub returns-clause-ready : goal.returns-clause-ready
+returns-clause-ready g c = c.told.ensures.ready _ _ c.in_ok-keep_acceptance.ensures.ready
+
+pub returns-clause-makes : goal.returns-clause-makes
+returns-clause-makes g c = λ b m h.
+    let r = c.args.self.now in
+    let new = c.keep_acceptance.new.self in
+    let keeps = subst (λ (x : Block). Keeps (acceptance (place_of r) r.view x) r new c.args.out.now c.keep_acceptance.new.out) c.in_ok-accepted.ensures c.in_ok-keep_acceptance.ensures.keeps in
+    let sent = c.in_ok-send_prepare.ensures.sent ∙ ap (λ (l : List steps.Post). map sent_of c.keep_acceptance.new.out.sends ++ map text_of l) (alone_posts new.id (place_of new) new.view c.args.block) in
+    let made = makes_accepted_sent b m c.args.block alone (λ p w. refl) r _ _ _ _ c.args.out.now h
+    (of_copy (λ (x : Block). acceptance (place_of r) r.view x) c.in_ok-accepted.accepted c.args.block r _ _ _ _ c.in_ok-accepted.ensures (c.keep_acceptance.ensures.any_moment _))
+    new c.keep_acceptance.new.out c.send_prepare.new.out keeps c.send_prepare.ensures.facts c.send_prepare.ensures.done sent in
+    c.in_ok-told.ensures.makes b (makes_accepted node_ways c.args.block [] m) _ refl
+    (makes_tells b (makes_accepted node_ways c.args.block [] m) act_of.Kept new _ _ _ _ c.send_prepare.new.out c.keep_acceptance.ensures.tells made)

@@ -1,0 +1,55 @@
+use Rattle.std.proofs.Common.{IsTrue, ◌∷◌, ◌++◌, [], ap, refl, subst, sym, ◌∙◌}
+use Rattle.std.proofs.lemmas.List.{append-nil}
+use Rattle.gate_log.specs.Runs.{Went}
+use Rattle.node_model.specs.Deeds.{Deed, fact_of}
+use Rattle.bft_node.specs.Crashes.{Within}
+use Rattle.bft_node.specs.Held.{Held, with_deed}
+use Rattle.bft_node.specs.Stores.{config_of, held_of}
+use Rattle.bft_node.specs.declared.live.Running.{Running}
+use Rattle.block_ledger.specs.Ledgers.{first_config}
+use Rattle.block_ledger.specs.declared.ledger.Ledger.{Ledger}
+use Rattle.bft_node.proofs.KeepingLemmas.{keeps_within, same_place, same_preparation, still_sound}
+use Rattle.bft_node.proofs.live.Running.keep_preparation.Goals as goal
+
+pub returns-in_err-prepare-clause-any_moment : goal.returns-in_err-prepare-clause-any_moment
+returns-in_err-prepare-clause-any_moment g c =
+    let r = c.args.self.now in
+    let same = same_preparation r r.view.me c.view-view.result c.place-place.result.now c.args.digest refl c.place-place.ensures c.view-view.ensures in
+    keeps_within _ r _ _ _ (λ judge t chain. subst (λ (d : Deed). Went (Within judge (config_of r.store) (d ∷ []) (held_of r.store)) (g.D.Disk.moments c.args.disk.now) (g.D.Disk.moments c.prepare.new.disk)) same
+    (c.prepare.ensures.any_moment r.view.me judge t chain))
+
+pub returns-in_err-push-clause-any_moment : goal.returns-in_err-push-clause-any_moment
+returns-in_err-push-clause-any_moment g c =
+    let r = c.args.self.now in
+    let same = same_preparation r r.view.me c.view-view.result c.place-place.result.now c.args.digest refl c.place-place.ensures c.view-view.ensures in
+    keeps_within _ r _ _ _ (λ judge t chain. subst (λ (d : Deed). Went (Within judge (config_of r.store) (d ∷ []) (held_of r.store)) (g.D.Disk.moments c.args.disk.now) (g.D.Disk.moments c.prepare.new.disk)) same
+    (c.prepare.ensures.any_moment r.view.me judge t chain))
+
+pub returns-clause-ready : goal.returns-clause-ready
+returns-clause-ready g c =
+    let r = c.args.self.now in
+    let new : Running = record r { store = c.prepare.new.self } in
+    record {
+      sound = still_sound r new refl refl (same_place r new (ap (λ (l : Ledger). first_config l) c.prepare.ensures.ledger) (ap (λ (h : Held). h.blocks) (c.in_ok-prepare.ensures.added r.id))) c.requires.sound;
+      kept = λ t. c.in_ok-prepare.ensures.kept (subst (λ b. IsTrue b) c.prepare.ensures.tells t);
+    }
+
+pub returns-clause-keeps : goal.returns-clause-keeps
+returns-clause-keeps g c =
+    let r = c.args.self.now in
+    let same = same_preparation r r.view.me c.view-view.result c.place-place.result.now c.args.digest refl c.place-place.ensures c.view-view.ensures in
+    let named = same_preparation r r.id c.view-view.result c.place-place.result.now c.args.digest (sym c.requires.sound.me) c.place-place.ensures c.view-view.ensures in
+    record {
+      still = record { id = refl; view = refl; found = refl; config = (ap (λ (l : Ledger). first_config l) c.prepare.ensures.ledger) };
+      held = c.in_ok-prepare.ensures.added r.view.me ∙ ap (λ (d : Deed). with_deed d (held_of r.store)) same;
+      facts = c.in_ok-push.ensures.ok ∙ ap (λ (d : Deed). c.args.out.now.facts ++ fact_of d ∷ []) named;
+      sends = refl;
+      done = sym (append-nil c.args.out.now.done);
+    }
+
+pub returns-clause-any_moment : goal.returns-clause-any_moment
+returns-clause-any_moment g c =
+    let r = c.args.self.now in
+    let same = same_preparation r r.view.me c.view-view.result c.place-place.result.now c.args.digest refl c.place-place.ensures c.view-view.ensures in
+    keeps_within _ r _ _ _ (λ judge t chain. subst (λ (d : Deed). Went (Within judge (config_of r.store) (d ∷ []) (held_of r.store)) (g.D.Disk.moments c.args.disk.now) (g.D.Disk.moments c.prepare.new.disk)) same
+    (c.prepare.ensures.any_moment r.view.me judge t chain))

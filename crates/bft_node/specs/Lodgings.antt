@@ -1,0 +1,79 @@
+-- The nodes of one world with their disks, and what an opening and a step make of one.
+use Rattle.std.specs.Prelude.{◌≡◌, ◌≢◌, ◌↔◌, ℕ, false, true, List, [], Option, Some, None, Result, Ok, Err, is_err, OnOk}
+use Rattle.gate_log.specs.Arms.{armed}
+use Rattle.gate_log.specs.Disk.{now}
+use Rattle.gate_log.specs.History.{states}
+use Rattle.gate_log.specs.Runs.{Went}
+use Rattle.gate_log.specs.declared.image.Image.{Image}
+use Rattle.gate_log.specs.declared.memory.MemDisk.{MemDisk}
+use Rattle.signer_edge.specs.Accepts.{Accepts}
+use Rattle.signer_edge.specs.Seals.{Seat, SealsOne, is_sealed}
+use Rattle.block_ledger.specs.Chains.{IsChain}
+use Rattle.node_model.specs.Steps.{Keys}
+use Rattle.bft_node.specs.NodeFaults.{HasNodeCause, counts}
+use Rattle.bft_node.specs.NodeSteps.{TakesStep}
+use Rattle.bft_node.specs.Returning.{opened}
+use Rattle.bft_node.specs.Running.{event_of, state_of}
+use Rattle.bft_node.specs.Signings.{Grows, KeysFit, Signs, keys_after, statements_in}
+use Rattle.bft_node.specs.Stores.{IsKept, OpensTo, StaysOpen, config_of, held_of}
+use Rattle.bft_node.specs.declared.fault.OpenFault.{OpenFault}
+use Rattle.bft_node.specs.declared.live.Event.{Event}
+use Rattle.bft_node.specs.declared.live.Out.{Out}
+use Rattle.bft_node.specs.declared.live.Setup.{Setup}
+use Rattle.bft_node.specs.declared.node_fault.NodeFault.{NodeFault}
+use Rattle.bft_node.specs.declared.node_fault.NodeFault.TheVariants as fault_of
+use Rattle.bft_node.specs.declared.lodged.Lodged.{Lodged}
+
+-- which node stands under an id
+abbrev pub Lodging : Type 0
+Lodging = ℕ → Option Lodged
+
+-- under this id stands this now, and the others are as they were
+pub record Becomes (before after : Lodging) (id : ℕ) (then : Option Lodged) : Type 0 where
+  pub there : after id ≡ then
+  pub others : (other : ℕ) → other ≢ id → after other ≡ before other
+
+-- all stand as they did
+abbrev pub StaysAlike : Lodging → Lodging → Type 0
+StaysAlike before after = (id : ℕ) → after id ≡ before id
+
+-- what was accepted by a box of seals
+abbrev pub accepts_of : Seat → Accepts
+accepts_of seat = is_sealed seat.seals
+
+-- A node as it is opened on what this disk holds.
+pub record IsOpenedOn (setup : Setup) (accepts : Accepts) (disk : MemDisk) (l : Lodged) : Type 0 where
+  pub runs : l.node.closed ≡ false
+  pub id : l.node.running.id ≡ setup.me
+  pub config : config_of l.node.running.store ≡ setup.genesis
+  pub chain : IsChain accepts setup.genesis (held_of l.node.running.store).blocks
+  pub state : state_of l.node.running ≡ opened setup.genesis setup.me (held_of l.node.running.store)
+  pub value : OpensTo accepts setup.genesis (now (states disk.history)) (Ok l.node.running.store)
+  pub any_moment : Went (StaysOpen accepts setup.genesis (now (states disk.history))) (states disk.history) (states l.disk.history)
+  pub kept : IsKept l.node.running.store (now (states l.disk.history))
+
+-- what `add` comes to: the node stands under its id, or the first fault is told
+abbrev pub Adds : Lodging → Lodging → Setup → Accepts → MemDisk → Result (Unit {0}) OpenFault → Type 0
+Adds before after setup accepts disk (Ok _) = (l : Lodged) × IsOpenedOn setup accepts disk l × Becomes before after setup.me (Some l)
+Adds before after setup accepts disk (Err fault) = StaysAlike before after × OpensTo accepts setup.genesis (now (states disk.history)) (Err fault)
+
+-- One step of a node over its disk, by keys of the definition that say what the box did.
+pub record IsStepOf (old new : Lodged) (event : Event) (before after : Seat) (result : Result Out NodeFault) : Type 0 where
+  pub step : old.node.closed ≡ false → Signs SealsOne result before after (λ signings. (model : Keys) → KeysFit accepts_of model [] before signings → Grows accepts_of before signings
+      → TakesStep model old.node.running new.node.running (event_of event) (statements_in signings) (accepts_of before) (accepts_of (keys_after before signings)) result true (states old.disk.history) (states new.disk.history))
+  pub kept : OnOk result (IsKept new.node.running.store (now (states new.disk.history)))
+  pub id : OnOk result (new.node.running.id ≡ old.node.running.id)
+  pub config : OnOk result (config_of new.node.running.store ≡ config_of old.node.running.store)
+  pub closed : (result ≡ Err fault_of.Closed) ↔ (old.node.closed ≡ true)
+  pub nothing : old.node.closed ≡ true → (new.disk ≡ old.disk) × (after ≡ before)
+  pub closes : new.node.closed ≡ is_err result
+  pub cause : old.node.closed ≡ false → HasNodeCause (counts old.disk.faults 0) (counts new.disk.faults 0) result
+
+-- what `step` comes to
+abbrev pub StepsAt : Lodging → Lodging → ℕ → Event → Seat → Seat → Result Out NodeFault → Type 0
+StepsAt before after id event keys keys_then result =
+    (old : Lodged) → before id ≡ Some old → (new : Lodged) × IsStepOf old new event keys keys_then result × Becomes before after id (Some new)
+
+-- with its disk armed
+abbrev pub with_arm : ℕ → Image → Lodged → Lodged
+with_arm call image l = record l { disk = record l.disk { arm = armed call image l.disk.arm } }

@@ -1,0 +1,85 @@
+-- Why a step wasn't done.
+use Rattle.std.specs.Prelude.{ℕ, ◌^◌, ◌≤◌, ◌⊎◌, ◌≡◌, Bool, true, false, List, length, take, slice_get, Option, Some, IsSome, Result, Ok, Err}
+use Rattle.ord_types.specs.Causes.{Rose}
+use Rattle.ord_types.specs.declared.values.Proof.TheVariants.{Bft}
+use Rattle.bft_wal.specs.declared.record.WalRecord.TheVariants as record_of
+use Rattle.node_model.specs.Deeds.{Deed, Accepts, Prepares, Delivers}
+use Rattle.signer_edge.specs.declared.signing.SignFault.{SignFault}
+use Rattle.signer_edge.specs.declared.signing.SignFault.TheVariants as sign_of
+use Rattle.bft_node.specs.Held.{Held, with_deeds}
+use Rattle.bft_node.specs.Stores.{held_of, ledger_limit, log_limit}
+use Rattle.bft_node.specs.declared.store.Store.{Store}
+use Rattle.bft_node.specs.declared.fault.StoreFault.{StoreFault}
+use Rattle.bft_node.specs.declared.fault.StoreFault.TheVariants as store_of
+use Rattle.bft_node.specs.declared.node_fault.NodeFault.{NodeFault}
+use Rattle.bft_node.specs.declared.node_fault.NodeFault.TheVariants as node_of
+
+abbrev pub sign_fault : SignFault → NodeFault
+sign_fault sign_of.Failed = node_of.Sign
+sign_fault sign_of.NoMemory = node_of.NoMemory
+
+-- whatever length a file would get
+abbrev pub store_fault : StoreFault → NodeFault
+store_fault (store_of.Limit n) = node_of.Limit (2 ^ 62)
+store_fault store_of.NoMemory = node_of.NoMemory
+store_fault store_of.Disk = node_of.Disk
+
+-- the counts of faults of the disk and of the signer
+pub record Counts : Type 0 where
+  pub disk : ℕ
+  pub keys : ℕ
+
+abbrev pub counts : ℕ → ℕ → Counts
+counts disk keys = record { disk = disk; keys = keys }
+
+-- A DEED THAT NEEDS MORE THAN MAY BE
+
+-- the length that the file would get to which a deed is written, where it is too great
+abbrev pub write_limit : Store → Deed → Option ℕ
+write_limit store (Accepts i e v s b) = log_limit store (record_of.Accepted e v s b)
+write_limit store (Prepares i e v s d) = log_limit store (record_of.Prepared e v s d)
+write_limit store (Delivers i b cert) = ledger_limit store (b, Bft cert)
+
+abbrev pub is_delivery : Deed → Bool
+is_delivery (Delivers i b cert) = true
+is_delivery (Accepts i e v s b) = false
+is_delivery (Prepares i e v s d) = false
+
+-- A deed of a node that holds so would make a file too long, or is the delivery after which no number is left.
+abbrev pub NeedsMore : ℕ → Deed → Held → Type 0
+NeedsMore limit deed held =
+    ((limit ≡ 2 ^ 62) × ((store : Store) × (held_of store ≡ held) × IsSome (write_limit store deed)))
+    ⊎ ((limit ≡ 4611686018427387903) × (is_delivery deed ≡ true) × (4611686018427387903 ≤ length held.blocks))
+
+-- the same of the deed at which a call fails
+abbrev pub NeedsLimit : Deed → Held → NodeFault → Type 0
+NeedsLimit deed held node_of.Closed = Unit {0}
+NeedsLimit deed held (node_of.Limit n) = NeedsMore n deed held
+NeedsLimit deed held node_of.NoMemory = Unit {0}
+NeedsLimit deed held node_of.Disk = Unit {0}
+NeedsLimit deed held node_of.Sign = Unit {0}
+
+-- one of these deeds, where those before it are done
+abbrev pub HasLimit : Held → List Deed → NodeFault → Type 0
+HasLimit held deeds node_of.Closed = Unit {0}
+HasLimit held deeds (node_of.Limit n) = (k : ℕ) × (deed : Deed) × (slice_get deeds k ≡ Some deed) × NeedsMore n deed (with_deeds (take k deeds) held)
+HasLimit held deeds node_of.NoMemory = Unit {0}
+HasLimit held deeds node_of.Disk = Unit {0}
+HasLimit held deeds node_of.Sign = Unit {0}
+
+-- a device is named only where its count rose; Closed is told by no call of a node that runs
+abbrev pub HasNodeCause : {T : Type 0} → Counts → Counts → Result T NodeFault → Type 0
+HasNodeCause before now (Ok _) = Unit {0}
+HasNodeCause before now (Err node_of.Closed) = ⊥
+HasNodeCause before now (Err (node_of.Limit n)) = (n ≡ 2 ^ 62) ⊎ (n ≡ 4611686018427387903)
+HasNodeCause before now (Err node_of.NoMemory) = Unit {0}
+HasNodeCause before now (Err node_of.Disk) = Rose before.disk now.disk
+HasNodeCause before now (Err node_of.Sign) = Rose before.keys now.keys
+
+-- a call that makes nothing durable needs no more than may be
+abbrev pub IsNoLimit : NodeFault → Type 0
+IsNoLimit node_of.Closed = Unit {0}
+IsNoLimit (node_of.Limit n) = ⊥
+IsNoLimit node_of.NoMemory = Unit {0}
+IsNoLimit node_of.Disk = Unit {0}
+IsNoLimit node_of.Sign = Unit {0}

@@ -1,0 +1,42 @@
+-- What a running node stands for, and what it keeps true.
+use Rattle.std.specs.Prelude.{◌≡◌, ℕ, Bool, List, Option, map, IsTrue}
+use Rattle.std.specs.Option.{option_map}
+use Rattle.ord_types.specs.Grammar.{IsNumber}
+use Rattle.ord_types.specs.declared.values.Place.{Place}
+use Rattle.gate_log.specs.Disk.{State, now}
+use Rattle.block_ledger.specs.Places.{place_after}
+use Rattle.node_model.specs.Restarts.{Returned, Found}
+use Rattle.node_model.specs.Steps as steps
+use Rattle.view_core.specs.Places.{IsPlace, StandsAt}
+use Rattle.bft_node.specs.Stores.{IsKept, config_of, held_of}
+use Rattle.bft_node.specs.declared.live.Event.{Event}
+use Rattle.bft_node.specs.declared.live.Event.TheVariants.{Tick, FromMember}
+use Rattle.bft_node.specs.declared.live.Found.{Found as Kept}
+use Rattle.bft_node.specs.declared.live.Running.{Running}
+
+-- where its ledger stands
+abbrev pub place_of : Running → Place
+place_of r = place_after (config_of r.store) (held_of r.store).blocks
+
+abbrev pub as_found : Option Kept → Option Found
+as_found found = option_map (λ (f : Kept). record { config = f.config; view = f.view; height = f.height; block = f.block; is_prepared = f.is_prepared }) found
+
+abbrev pub state_of : Running → Returned
+state_of r = record { core = record { place = place_of r; view = r.view }; found = as_found r.found }
+
+abbrev pub event_of : Event → steps.Event
+event_of (Tick offer) = steps.Tick offer
+event_of (FromMember from bytes) = steps.FromMember from bytes
+
+-- its view is its own, at its place; all numbers have a spelling
+pub record IsSound (r : Running) : Type 0 where
+  pub me : r.view.me ≡ r.id
+  pub place : IsPlace (place_of r)
+  pub at : StandsAt (place_of r) r.view
+  pub config : IsNumber (place_of r).config.number
+  pub view : IsNumber r.view.view
+
+-- It may go on over a disk with these moments: both files are as it left them.
+pub record IsReady (tells : Bool) (moments : List State) (r : Running) : Type 0 where
+  pub sound : IsSound r
+  pub kept : IsTrue tells → IsKept r.store (now moments)

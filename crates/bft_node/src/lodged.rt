@@ -1,0 +1,50 @@
+//! A node with its disk in memory.
+ghost use Rattle.std.specs.Prelude.{◌≡◌, IfOk, false};
+ghost use Rattle.ord_types.specs.Genesis.{IsGenesisConfig};
+ghost use Rattle.gate_log.specs.Disk.{now};
+ghost use Rattle.gate_log.specs.History.{states};
+ghost use Rattle.bft_node.specs.Stores.{IsKept};
+
+use crate::live::{Event, Out, Setup};
+use crate::{Node, NodeFault, OpenFault};
+use gate_log::MemDisk;
+use signer_edge::SealSeat;
+use std::alloc::Global;
+
+/// A node with its disk in memory.
+#[derive(Drop)]
+pub struct Lodged {
+    pub(crate) node: Node,
+    pub(crate) disk: MemDisk,
+    ghost kept: { node.closed ≡ false → IsKept node.running.store (now (states disk.history)) },
+}
+
+impl Lodged {
+    ghost use Rattle.std.specs.Prelude.{MatchResult};
+    ghost use Rattle.bft_node.specs.Lodgings.{IsOpenedOn, IsStepOf, accepts_of};
+    ghost use Rattle.bft_node.specs.Stores.{OpensTo};
+    ghost use Rattle.std.specs.Prelude.{Err};
+
+    /// Opens a node on what this disk holds.
+    pub(crate) fn open(
+        alloc: Global,
+        setup: &Setup,
+        disk: MemDisk,
+        keys: &mut SealSeat,
+    ) -> Result<Lodged, OpenFault>
+        requires { IsGenesisConfig setup.now.genesis }
+        ensures opened { MatchResult result (IsOpenedOn setup.now (accepts_of keys.old) disk) (λ fault. OpensTo (accepts_of keys.old) setup.now.genesis (now (states disk.history)) (Err fault)) }
+        ensures keys { keys.new ≡ keys.old }
+    {
+        let mut disk = disk;
+        let node = Node::open(alloc, setup, &mut disk, keys)?;
+        Ok(Lodged { node, disk })
+    }
+
+    /// An event of the node.
+    pub(crate) fn step(&mut self, event: Event, keys: &mut SealSeat) -> Result<Out, NodeFault>
+        ensures { IsStepOf self.old self.new event keys.old keys.new result }
+    {
+        self.node.step(event, &mut self.disk, keys)
+    }
+}

@@ -1,0 +1,136 @@
+//! What a node sends again at the first tick after its opening.
+ghost use Rattle.std.specs.Prelude.{◌≡◌, ◌≤◌, ◌==◌, Bool, IfErr, List as Items, [], ◌++◌, OnOk, Some, None, map};
+ghost use Rattle.std.specs.List.{flat_map};
+ghost use Rattle.ord_types.specs.Lengths.{FitsBlock};
+ghost use Rattle.gate_log.specs.Disk.{State};
+ghost use Rattle.node_model.specs.declared.act.Act.TheVariants as act_of;
+ghost use Rattle.node_model.specs.Leading.{leader};
+ghost use Rattle.node_model.specs.Restarts.{Found as FoundOnce, current, is_current, repeat_round, repeated_votes, repeats_commit};
+ghost use Rattle.node_model.specs.Steps.{to_all};
+ghost use Rattle.bft_node.specs.Making.{Before, GoesOn, IsStopped, Makes, Step, around, node_returns, place_in, sent_of, text_of, view_in};
+ghost use Rattle.bft_node.specs.NodeFaults.{HasNodeCause, IsNoLimit, counts};
+ghost use Rattle.bft_node.specs.Running.{IsReady, IsSound, as_found, place_of};
+ghost use Rattle.bft_node.specs.Signings.{Grows, KeysFit, Signs, keys_after, statements_in};
+
+use crate::NodeFault;
+use crate::live::{Found, Out, Running};
+use crate::spelled::is_block;
+use ord_types::{Block, Digest, Kind, NoMemory, block_hash};
+use signer_edge::{Signer, Verifier};
+use std::mem;
+use view_core::Act;
+
+impl Running {
+    /// Whether the node is a member of a BFT configuration, inside its view, and stands where the opening found it.
+    fn is_current(&self, found: &Found) -> bool
+        requires { IsSound self.now }
+        ensures { (f : FoundOnce) → as_found (Some found.now) ≡ Some f → result ≡ is_current (place_of self.now) self.now.view f }
+    {
+        let place = self.store.ledger.place();
+        let is_bft = match place.config.kind {
+            Kind::Bft => true,
+            Kind::Raft => false,
+        };
+        is_bft
+            && place.config.members.as_slice().contains(&self.id)
+            && self.view.left() <= self.view.view()
+            && found.config == place.config.number
+            && found.view == self.view.view()
+            && found.height == place.height
+    }
+
+    /// Whether the node leads its view.
+    fn is_leader(&self) -> bool
+        requires { IsSound self.now }
+        ensures { result ≡ (leader (place_of self.now) self.now.view.view == self.now.view.me) }
+    {
+        let members = self.store.ledger.place().config.members.as_slice();
+        members[(self.view.view() % members.len() as u64) as usize] == self.id
+    }
+
+    /// The proposal by the leader, and the Prepare.
+    fn repeat_votes(&self, block: &Block, out: &mut Out) -> Result<(), NoMemory>
+        requires sound { IsSound self.now }
+        requires fits { FitsBlock block.now }
+        ensures sent { OnOk result (map sent_of out.new.sends ≡ map sent_of out.old.sends ++ map text_of (flat_map (to_all (place_of self.now).config.members self.now.id) (repeated_votes (place_of self.now) self.now.view block.now))) }
+        ensures facts { out.new.facts ≡ out.old.facts }
+        ensures done { out.new.done ≡ out.old.done }
+    {
+        if self.is_leader() {
+            self.send_proposal(block, out)
+        } else {
+            self.send_prepare(block, out)
+        }
+    }
+
+    /// What was found is sent again where it is current.
+    fn repeat_found<K: Signer + Verifier>(
+        &mut self,
+        found: &Found,
+        keys: &mut K,
+        out: &mut Out,
+    ) -> Result<(), NodeFault>
+        requires { IsSound self.old }
+        ensures sound { IsSound self.new }
+        ensures ready { (tells : Bool) (moments : Items State) → IsReady tells moments self.old → IsReady tells moments self.new }
+        ensures makes { Signs K.sign_gives result keys.old keys.new (λ signings. (tells : Bool) (moments : Items State) (b : Before) (m : Step) → m.state.deeds ≡ [] → KeysFit K.accepts b.keys m.signed keys.old signings → Grows K.accepts keys.old signings → Makes b m act_of.Kept self.old (around (K.accepts keys.old) tells moments out.old) → GoesOn result (λ _. Makes b (repeat_round node_returns b.keys (current (place_in m) (view_in m) (as_found (Some found.now))) m) act_of.Kept self.new (around (K.accepts keys.new) tells moments out.new)) (λ fault. IsStopped b (repeat_round node_returns b.keys (current (place_in m) (view_in m) (as_found (Some found.now))) m) (m.signed ++ statements_in signings) (K.accepts (keys_after keys.old signings)) tells moments fault)) }
+        ensures later { K.faults keys.old ≤ K.faults keys.new }
+        ensures no_limit { IfErr result IsNoLimit }
+        ensures cause { HasNodeCause (counts 0 (K.faults keys.old)) (counts 0 (K.faults keys.new)) result }
+    {
+        if !self.is_current(found) {
+            return Ok(());
+        }
+        // it was read from bytes
+        if !is_block(&found.block) {
+            return Err(NodeFault::NoMemory);
+        }
+        self.repeat_votes(&found.block, out)?;
+        if found.is_prepared {
+            return self.repeat_commit(block_hash(&found.block.header), keys, out);
+        }
+        Ok(())
+    }
+
+    /// The Commit is signed and sent again. What it tells is told again when all that is due is done.
+    fn repeat_commit<K: Signer + Verifier>(
+        &mut self,
+        digest: Digest,
+        keys: &mut K,
+        out: &mut Out,
+    ) -> Result<(), NodeFault>
+        requires { IsSound self.old }
+        ensures sound { IsSound self.new }
+        ensures ready { (tells : Bool) (moments : Items State) → IsReady tells moments self.old → IsReady tells moments self.new }
+        ensures makes { Signs K.sign_gives result keys.old keys.new (λ signings. (tells : Bool) (moments : Items State) (b : Before) (m : Step) → m.state.deeds ≡ [] → KeysFit K.accepts b.keys m.signed keys.old signings → Grows K.accepts keys.old signings → Makes b m act_of.Kept self.old (around (K.accepts keys.old) tells moments out.old) → GoesOn result (λ _. Makes b (repeats_commit node_returns b.keys digest m) act_of.Kept self.new (around (K.accepts keys.new) tells moments out.new)) (λ fault. IsStopped b (repeats_commit node_returns b.keys digest m) (m.signed ++ statements_in signings) (K.accepts (keys_after keys.old signings)) tells moments fault)) }
+        ensures later { K.faults keys.old ≤ K.faults keys.new }
+        ensures no_limit { IfErr result IsNoLimit }
+        ensures cause { HasNodeCause (counts 0 (K.faults keys.old)) (counts 0 (K.faults keys.new)) result }
+    {
+        match self.commit(digest, keys, out)? {
+            // what was found is accepted and prepared, so no vote is due
+            Act::Accept(_) | Act::Prepare(_) => Err(NodeFault::NoMemory),
+            _ => Ok(()),
+        }
+    }
+
+    /// A tick takes what the opening found.
+    pub(crate) fn repeat<K: Signer + Verifier>(
+        &mut self,
+        keys: &mut K,
+        out: &mut Out,
+    ) -> Result<(), NodeFault>
+        requires { IsSound self.old }
+        ensures sound { IsSound self.new }
+        ensures ready { (tells : Bool) (moments : Items State) → IsReady tells moments self.old → IsReady tells moments self.new }
+        ensures makes { Signs K.sign_gives result keys.old keys.new (λ signings. (tells : Bool) (moments : Items State) (b : Before) (m : Step) → m.state.deeds ≡ [] → KeysFit K.accepts b.keys m.signed keys.old signings → Grows K.accepts keys.old signings → Makes b m act_of.Kept (record self.old { found = None }) (around (K.accepts keys.old) tells moments out.old) → GoesOn result (λ _. Makes b (repeat_round node_returns b.keys (current (place_in m) (view_in m) (as_found self.old.found)) m) act_of.Kept self.new (around (K.accepts keys.new) tells moments out.new)) (λ fault. IsStopped b (repeat_round node_returns b.keys (current (place_in m) (view_in m) (as_found self.old.found)) m) (m.signed ++ statements_in signings) (K.accepts (keys_after keys.old signings)) tells moments fault)) }
+        ensures later { K.faults keys.old ≤ K.faults keys.new }
+        ensures no_limit { IfErr result IsNoLimit }
+        ensures cause { HasNodeCause (counts 0 (K.faults keys.old)) (counts 0 (K.faults keys.new)) result }
+    {
+        match mem::replace(&mut self.found, None) {
+            None => Ok(()),
+            Some(found) => self.repeat_found(&found, keys, out),
+        }
+    }
+}
