@@ -1,5 +1,5 @@
 -- Lemmas on runs that go through the same: they print the same and end the same.
-use Rattle.std.proofs.Common.{◌≡◌, ℕ, ◌+◌, Bool, true, false, cond, ltb, List, [], ◌∷◌, ◌++◌, map, length, sym, ap, ap₂, refl, None, Result, Ok, Err}
+use Rattle.std.proofs.Common.{◌≡◌, ℕ, ◌+◌, Bool, true, false, cond, ltb, List, [], ◌∷◌, ◌++◌, map, length, sym, ap, ap₂, ◌∙◌, refl, Option, Some, None, Result, Ok, Err}
 use Rattle.line_flow.specs.Lines.{lines}
 use Rattle.script.specs.declared.command.Command.{Command}
 use Rattle.script.specs.declared.command.Stop.TheVariants.{Malformed, NotBuilt}
@@ -11,11 +11,12 @@ use Rattle.script_play.specs.declared.ending.Ending.TheVariants.{Done}
 use Rattle.script_play.specs.Turns.{Turn}
 use Rattle.script_play.specs.Runs.{Run, line_turn, limit_turn, max_line, max_lines, run, said, script_run, went}
 use Rattle.script_play.specs.Worlds.{worlds, worlds_after}
-use Rattle.world_model.specs.Worlds.{Outcome}
-use Rattle.world_model.specs.Turns.{closing_of, turn_of}
+use Rattle.world_model.specs.Worlds.{Outcome, Setting, World}
+use Rattle.world_model.specs.Turns.{closing_of, some_world, then_on, turn_in, turn_of}
 use Rattle.world_model.specs.Cores.{core_setting}
 use Rattle.world_model.specs.Histories.{past_setting, run_of, worlds_of}
 use Rattle.world_model.specs.Seen.{seen_if_any}
+use Rattle.world_model.specs.Stages.{Stage, Waits, next_stage, stage_closing, stage_of, stage_turn, staged}
 use Rattle.world_model.proofs.SeenLemmas.{NoneAheadIfAny, SameNext, SameTurn, closing_same, turn_of_same}
 
 -- each command does the same in two worlds, of which one is seen in the other
@@ -85,3 +86,40 @@ runs_agree outcomes script =
 -- and so are its worlds
 pub worlds_agree : (outcomes : List Outcome) (script : List ℕ) → worlds (turn_of core_setting outcomes) (lines script) None 1 ≡ map seen_if_any (worlds_of outcomes script)
 worlds_agree outcomes script = sym (worlds_same seen_if_any NoneAheadIfAny (turn_of past_setting outcomes) (turn_of core_setting outcomes) (turn_of_same outcomes) (lines script) None 1 tt)
+
+-- THE STAGES OF A SCRIPT'S MACHINE: the outcomes are those of the script before there is a world, and then that world's
+
+abbrev Any : {V : Type 0} → V → Type 0
+Any v = Unit {0}
+
+abbrev InStages : {S T : Type 0} → List Outcome → Turn (Option (World S T)) → Turn (Stage S T) → Type 0
+InStages outcomes = SameTurn (stage_of outcomes) Any
+
+next_staged : {S T : Type 0} (outcomes : List Outcome) (r : Result (Option (World S T)) Ending) → SameNext (stage_of outcomes) Any r (next_stage outcomes r)
+next_staged outcomes (Ok o) = (refl, tt)
+next_staged outcomes (Err ending) = refl
+
+-- where there is a world, no other outcomes are looked at
+going_staged : {S T : Type 0} (outcomes later : List Outcome) (printed : List ℕ) (r : Result (World S T) Ending)
+    → InStages outcomes (then_on printed r some_world) (staged later (then_on printed r some_world))
+going_staged outcomes later printed (Ok w) = record { printed = refl; next = (refl, tt) }
+going_staged outcomes later printed (Err ending) = record { printed = refl; next = refl }
+
+turn_staged : {S T : Type 0} (setting : Setting S T) (outcomes : List Outcome) (o : Option (World S T)) (number : ℕ) (command : Command) → Any o
+    → InStages outcomes (turn_of setting outcomes o number command) (stage_turn setting (stage_of outcomes o) number command)
+unfolding turn_of stage_turn
+turn_staged setting outcomes None number command any =
+    record { printed = refl; next = next_staged outcomes (turn_of setting outcomes None number command).next }
+turn_staged setting outcomes (Some w) number command any =
+    let turn = turn_in setting number w command in
+    going_staged outcomes w.outcomes turn.printed turn.next
+
+closing_staged : {S T : Type 0} (setting : Setting S T) (outcomes : List Outcome) (o : Option (World S T)) → Any o → closing_of setting o ≡ stage_closing setting (stage_of outcomes o)
+closing_staged setting outcomes None any = refl
+closing_staged setting outcomes (Some w) any = refl
+
+-- a machine that goes through the stages of a script prints the same text, and its run ends the same
+pub stages_agree : (outcomes : List Outcome) (script : List ℕ) → script_run (stage_turn core_setting) (stage_closing core_setting) (Waits outcomes) script ≡ run_of outcomes script
+stages_agree outcomes script =
+    sym (run_same (stage_of outcomes) Any (turn_of core_setting outcomes) (stage_turn core_setting) (closing_of core_setting) (stage_closing core_setting)
+    (turn_staged core_setting outcomes) (closing_staged core_setting outcomes) (lines script) None 1 tt) ∙ runs_agree outcomes script

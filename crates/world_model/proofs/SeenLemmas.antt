@@ -1,5 +1,5 @@
 -- Lemmas on a world whose nodes are computed from their pasts, and the same world with states that are updated in place.
-use Rattle.std.proofs.Common.{◌≡◌, ℕ, zero, suc, ◌+◌, ◌-◌, Bool, true, false, cond, not, ◌&&◌, eqb, ltb, List, [], ◌∷◌, ◌++◌, map, filter, length, position, slice_get, ap, ap₂, ◌∙◌, refl, sym, subst, take, drop, Option, Some, None, is_some, option_map, Result, Ok, Err, codes}
+use Rattle.std.proofs.Common.{◌≡◌, ℕ, zero, suc, ◌+◌, ◌-◌, Bool, true, false, cond, not, ◌&&◌, eqb, ltb, List, [], ◌∷◌, ◌++◌, map, filter, length, position, slice_get, ap, ap₂, ◌∙◌, refl, sym, subst, take, Option, Some, None, is_some, option_map, Result, Ok, Err, codes}
 use Rattle.std.specs.List.{prefix_len}
 use Rattle.std.specs.List.{AllByRecursion, flat_map}
 use Rattle.script.specs.declared.command.Command.{Command}
@@ -29,10 +29,10 @@ use Rattle.node_model.proofs.AheadLemmas.{ahead_opens, ahead_reopens}
 use Rattle.node_model.proofs.RestartLemmas.{reopens_same, returns_same}
 use Rattle.node_model.proofs.StopLemmas.{deeds_same, stopped_ahead, stopped_same}
 use Rattle.world_model.specs.Pools.{answer}
-use Rattle.world_model.specs.Worlds.{World, Node, Entry, entry, is_waiting, is_named, Never, Outcome, Reached, keys_of, letter_from, made_of, making, marked, node_after, node_at, node_started, node_stopped, running, running_at, tick_of, with_node, world_after, world_stopped, world_stopped_in}
+use Rattle.world_model.specs.Worlds.{World, Node, Entry, entry, is_waiting, is_named, GoesOn, Outcome, Stops, keys_of, letter_from, made_of, making, marked, node_after, node_at, node_started, node_stopped, running, running_at, tick_of, with_node, world_after, world_stopped, world_stopped_in}
 use Rattle.world_model.specs.Texts.{fact_text, genesis_text, tick_text, deliver_text, flush_text, answer_text, lied_text, refused_text, seal_text, show_text, sent_text, start_text, stop_at_text, stopped_text}
 use Rattle.world_model.specs.Liars.{as_liar, as_signer, commit_for, is_raft_if_any, lie_turn, longer, longest, prepare_for, proposal_of, propose_on, propose_turn, proposed_in, seal_turn, sends, sig_at, statement_for, vote_for, vote_if, vote_turn, with_sent, with_signed}
-use Rattle.world_model.specs.Turns.{absence, at_found, at_node, at_stopped, event_by, event_goes, first_outcome, is_running, start_turn, stop_at_turn, stop_turn, unless_stopped, closing_of, closing_of_member, counted, deliver_turn, deliveries, delivery, delivery_to, event_turn, first_config, first_node, first_world, flush_turn, flushes, genesis_turn, goes_on, most_entries, most_flushed, ordinary, refuses, says, show_turn, shows, some_world, submit_turn, submitted, then_on, tick_at, ticks, turn_in, turn_of, within_limit}
+use Rattle.world_model.specs.Turns.{absence, at_found, at_node, at_stopped, event_by, event_goes, first_outcome, is_running, start_turn, stop_at_turn, stop_turn, unless_stopped, closing_of, closing_of_member, counted, deliver_turn, deliveries, delivery, delivery_to, event_turn, first_config, first_node, first_world, flush_turn, flushes, genesis_turn, goes_on, most_entries, most_flushed, ordinary, refuses, says, show_turn, shows, some_world, submit_turn, submitted, then_on, tick_at, ticks, turn_in, turn_of, with_later, within_limit}
 use Rattle.world_model.specs.Cores.{core_setting}
 use Rattle.world_model.specs.Histories.{past_setting}
 use Rattle.world_model.specs.Seen.{seen, seen_if_any, seen_node}
@@ -174,14 +174,21 @@ stopped_in_same number w node event kept signed all ahead =
 
 event_by_same : (number : ℕ) (w : Past) (node : Node PastNode) (event : Event) (outcome : Outcome) → NoneAhead w → IsAhead node
     → Same (event_by past_setting number w node event outcome) (event_by core_setting number (seen w) (seen_node node) event outcome)
-event_by_same number w node event Never all ahead = goes_same number w node event all ahead
-event_by_same number w node event (Reached zero kept signed) all ahead = stopped_in_same number w node event kept signed all ahead
-event_by_same number w node event (Reached (suc n) kept signed) all ahead = goes_same number w node event all ahead
+event_by_same number w node event GoesOn all ahead = goes_same number w node event all ahead
+event_by_same number w node event (Stops kept signed) all ahead = stopped_in_same number w node event kept signed all ahead
+
+either_same : (b : Bool) (p q : Turn Past) (r s : Turn InPlace) → Same p r → Same q s → Same (cond b p q) (cond b r s)
+either_same true p q r s one other = one
+either_same false p q r s one other = other
 
 event_same : (number : ℕ) (w : Past) (node : Node PastNode) (event : Event) → NoneAhead w → IsAhead node
     → Same (event_turn past_setting number w node event) (event_turn core_setting number (seen w) (seen_node node) event)
 unfolding event_turn
-event_same number w node event all ahead = event_by_same number w node event node.pending all ahead
+event_same number w node event all ahead =
+    let outcome = first_outcome w.outcomes in
+    either_same node.armed (event_by past_setting number (with_later w) node event outcome) (event_goes past_setting number w node event)
+    (event_by core_setting number (with_later (seen w)) (seen_node node) event outcome) (event_goes core_setting number (seen w) (seen_node node) event)
+    (event_by_same number (with_later w) node event outcome all ahead) (goes_same number w node event all ahead)
 
 -- A NODE THAT RUNS
 
@@ -203,10 +210,6 @@ there_same (Some node) p same = rw same.0 refl
 
 runs_same : (id : ℕ) (w : Past) → NoneAhead w → is_running id w ≡ is_running id (seen w)
 runs_same id w all = there_same (running_at id w.nodes) (running_at id (map seen_node w.nodes)) (running_at_same id w.nodes all)
-
-either_same : (b : Bool) (p q : Turn Past) (r s : Turn InPlace) → Same p r → Same q s → Same (cond b p q) (cond b r s)
-either_same true p q r s one other = one
-either_same false p q r s one other = other
 
 -- TICK
 
@@ -349,7 +352,7 @@ opens_seen c byzantine id = refl
 opened_seen : (c : Config) (byzantine ids : List ℕ) → map seen_node (map (first_node past_setting c byzantine) ids) ≡ map (first_node core_setting c byzantine) ids
 opened_seen c byzantine [] = refl
 opened_seen c byzantine (id ∷ ids) =
-    ap₂ (λ (s : Returned) (rest : List (Node Returned)). record { id = id; state = s; pool = []; ledger = (genesis_block c, proof_of.Raft) ∷ []; runs = true; pending = Never } ∷ rest) (opens_seen c byzantine id) (opened_seen c byzantine ids)
+    ap₂ (λ (s : Returned) (rest : List (Node Returned)). record { id = id; state = s; pool = []; ledger = (genesis_block c, proof_of.Raft) ∷ []; runs = true; armed = false } ∷ rest) (opens_seen c byzantine id) (opened_seen c byzantine ids)
 
 opened_ahead : (c : Config) (byzantine ids : List ℕ) → AllByRecursion IsAhead (map (first_node past_setting c byzantine) ids)
 opened_ahead c byzantine [] = tt
@@ -450,11 +453,11 @@ at_stopped_same number w id turn core_turn all each =
     (λ node ahead. either_same node.runs (refuses number (codes "running") w) (turn node) (refuses number (codes "running") (seen w)) (core_turn (seen_node node)) (refuses_same number (codes "running") w all) (each node ahead))
 
 -- another node in the place of one of its id, which a restart sees alike
-replaced_same : (text : List ℕ) (w : Past) (outcomes : List Outcome) (new : Node PastNode) → NoneAhead w → IsAhead new
-    → Same (says text (record w { nodes = with_node new w.nodes; outcomes = outcomes })) (says text (record (seen w) { nodes = with_node (seen_node new) (map seen_node w.nodes); outcomes = outcomes }))
-replaced_same text w outcomes new all ahead =
-    let after = record w { nodes = with_node new w.nodes; outcomes = outcomes } in
-    subst (λ nodes. Same (says text after) (says text (record (seen w) { nodes = nodes; outcomes = outcomes }))) (with_seen new w.nodes)
+replaced_same : (text : List ℕ) (w : Past) (new : Node PastNode) → NoneAhead w → IsAhead new
+    → Same (says text (record w { nodes = with_node new w.nodes })) (says text (record (seen w) { nodes = with_node (seen_node new) (map seen_node w.nodes) }))
+replaced_same text w new all ahead =
+    let after = record w { nodes = with_node new w.nodes } in
+    subst (λ nodes. Same (says text after) (says text (record (seen w) { nodes = nodes }))) (with_seen new w.nodes)
     (says_same seen NoneAhead text after (with_ahead new w.nodes ahead all))
 
 turn_same : (number : ℕ) (w : Past) (command : Command) → NoneAhead w → Same (turn_in past_setting number w command) (turn_in core_setting number (seen w) command)
@@ -479,10 +482,10 @@ turn_same number w (command_of.Stop id image) all =
     (λ node ahead. stop_same (stopped_text number node.id) w node [] [] all (reopens_same node.state) (ahead_reopens node.state ahead))
 turn_same number w (command_of.StopAt id call image) all =
     at_node_same number w id (λ node. stop_at_turn number w node) (λ node. stop_at_turn number (seen w) node) all
-    (λ node ahead. replaced_same (stop_at_text number node.id) w (drop 1 w.outcomes) (record node { pending = first_outcome w.outcomes }) all ahead)
+    (λ node ahead. replaced_same (stop_at_text number node.id) w (record node { armed = true }) all ahead)
 turn_same number w (command_of.Start id) all =
     at_stopped_same number w id (λ node. start_turn number w node) (λ node. start_turn number (seen w) node) all
-    (λ node ahead. replaced_same (start_text number node.id) w w.outcomes (node_started node) all ahead)
+    (λ node ahead. replaced_same (start_text number node.id) w (node_started node) all ahead)
 turn_same number w (command_of.Propose from to view client serial payload) all =
     let r = ordinary client serial payload in
     liar_same number w from to (propose_turn past_setting number w from to view r) (propose_turn core_setting number (seen w) from to view r) all (propose_same number w from to view r all)

@@ -1,5 +1,5 @@
 -- Every event keeps a good world, also one in which its node is stopped.
-use Rattle.std.proofs.Common.{◌≡◌, ℕ, zero, suc, true, false, List, [], ◌∷◌, ◌++◌, map, reverse, take, drop, sym, subst, ap, ◌∙◌}
+use Rattle.std.proofs.Common.{◌≡◌, ℕ, Bool, true, false, List, [], ◌∷◌, ◌++◌, cond, map, reverse, take, drop, sym, subst, ap, ◌∙◌}
 use Rattle.std.specs.Prelude.{◌==◌, not}
 use Rattle.std.specs.List.{AllByRecursion, flat_map}
 use Rattle.std.proofs.lemmas.List.{append_assoc, reverse-append, take-append-drop, take-map}
@@ -18,10 +18,11 @@ use Rattle.node_model.specs.Keeping.{PastNode}
 use Rattle.node_model.specs.Steps.{Event, Post}
 use Rattle.world_model.specs.Histories.{past_setting}
 use Rattle.world_model.specs.Pools.{has_id}
-use Rattle.world_model.specs.Worlds.{Never, Node, Outcome, Reached, World, deeds_in, keys_of, made_of, making, node_after, node_stopped, requests_in, seals_of, sent_by, stored_in, world_after, world_stopped, world_stopped_in}
+use Rattle.world_model.specs.Turns.{first_outcome}
+use Rattle.world_model.specs.Worlds.{GoesOn, Node, Outcome, Stops, World, deeds_in, keys_of, made_of, making, node_after, node_stopped, requests_in, seals_of, sent_by, stored_in, world_after, world_stopped, world_stopped_in}
 use Rattle.world_safety.specs.Certified.{IsCertifiedFact}
 use Rattle.world_safety.specs.Safe.{IsPreparedStatement}
-use Rattle.world_safety.specs.Within.{after_event, after_event_by}
+use Rattle.world_safety.specs.Within.{after_event, after_event_by, after_outcome}
 use Rattle.world_safety.proofs.Deeds.{AreDeeds, deeds_are, deeds_fit}
 use Rattle.world_safety.proofs.Fits.{FactFits}
 use Rattle.world_safety.proofs.Fronts.{fronts_made}
@@ -34,7 +35,7 @@ use Rattle.world_safety.proofs.Reading.{EntryIn, entry_over, posted_in, seals_fi
 use Rattle.world_safety.proofs.Reopening.{DeedFits, did_deeds, reopened}
 use Rattle.world_safety.proofs.Repeating.{step_stands}
 use Rattle.world_safety.proofs.Sealing.{AreCertified, IsSealedMaking, step_sealed}
-use Rattle.world_safety.proofs.Worlds.{GoodWorld, NodeIn, correct_is, goes_on_good}
+use Rattle.world_safety.proofs.Worlds.{GoodWorld, NodeIn, correct_is, goes_on_good, later_good}
 
 -- a step of a node of a good world
 making_stands : (su : Setup) (w : World PastNode History) (node : Node PastNode) (event : Event) → GoodWorld su w → NodeIn su w.told w.seals node → IsGoodEvent su w.told event
@@ -171,10 +172,13 @@ cut_keeps su w node event kept count good is brought =
 
 event_by_keeps : (su : Setup) (w : World PastNode History) (node : Node PastNode) (event : Event) (outcome : Outcome) → GoodWorld su w → NodeIn su w.told w.seals node → IsGoodEvent su w.told event
     → GoodWorld su (after_event_by w node event outcome)
-event_by_keeps su w node event Never good is brought = went_keeps su w node event good is brought
-event_by_keeps su w node event (Reached zero kept signed) good is brought = cut_keeps su w node event kept signed good is brought
-event_by_keeps su w node event (Reached (suc n) kept signed) good is brought = went_keeps su w node event good is brought
+event_by_keeps su w node event GoesOn good is brought = went_keeps su w node event good is brought
+event_by_keeps su w node event (Stops kept signed) good is brought = cut_keeps su w node event kept signed good is brought
 
 pub event_keeps : (su : Setup) (w : World PastNode History) (node : Node PastNode) (event : Event) → GoodWorld su w → NodeIn su w.told w.seals node → IsGoodEvent su w.told event
     → GoodWorld su (after_event w node event)
-event_keeps su w node event good is brought = event_by_keeps su w node event node.pending good is brought
+event_keeps su w node event good is brought = go node.armed
+  where
+    go : (t : Bool) → GoodWorld su (cond t (after_event_by (after_outcome w) node event (first_outcome w.outcomes)) (after_event_by w node event GoesOn))
+    go true = event_by_keeps su (after_outcome w) node event (first_outcome w.outcomes) (later_good su w (after_outcome w).outcomes good) is brought
+    go false = event_by_keeps su w node event GoesOn good is brought

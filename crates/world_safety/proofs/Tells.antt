@@ -20,11 +20,11 @@ use Rattle.node_model.specs.Steps.{Event}
 use Rattle.world_model.specs.Histories.{past_setting}
 use Rattle.world_model.specs.Pools.{answer}
 use Rattle.world_model.specs.Texts.{deliver_text, fact_text, flush_text, limit_text, show_text, stopped_text, tick_text}
-use Rattle.world_model.specs.Turns.{counted, deliver_turn, deliveries, delivery, delivery_to, event_by, event_goes, event_turn, first_outcome, flush_turn, flushes, goes_on, is_running, most_entries, refuses, says, show_turn, shows, start_turn, stop_at_turn, stop_turn, submit_turn, submitted, then_on, tick_at, ticks, unless_stopped}
-use Rattle.world_model.specs.Worlds.{Entry, Never, Node, Outcome, Reached, deeds_in, entry, is_waiting, letter_from, making, marked, node_at, node_started, running_at, tick_of, with_node, world_after, world_stopped_in}
+use Rattle.world_model.specs.Turns.{counted, deliver_turn, deliveries, delivery, delivery_to, event_by, event_goes, event_turn, first_outcome, flush_turn, flushes, goes_on, is_running, most_entries, refuses, says, show_turn, shows, start_turn, stop_at_turn, stop_turn, submit_turn, submitted, then_on, tick_at, ticks, unless_stopped, with_later}
+use Rattle.world_model.specs.Worlds.{Entry, GoesOn, Node, Outcome, Stops, deeds_in, entry, is_waiting, letter_from, making, marked, node_at, node_started, running_at, tick_of, with_node, world_after, world_stopped_in}
 use Rattle.world_safety.specs.Telling.{AreStops, Happened, IsSo, IsStopIn, NoBlock, NoEntry, Reply, Stopped, Went, end_text, event_text, events_text, facts_in, facts_of, histories_after, last_of, node_in, reply_text, told_in}
 use Rattle.world_safety.specs.Telling as it
-use Rattle.world_safety.specs.Within.{PastWorld, after_delivery, after_event, after_event_by, after_letter, after_start, after_stop, after_stop_at, after_submit, after_tick, in_deliver, in_deliveries, in_flush, in_flushes, in_tick, in_ticks, unless_cut}
+use Rattle.world_safety.specs.Within.{PastWorld, after_delivery, after_event, after_event_by, after_letter, after_outcome, after_start, after_stop, after_stop_at, after_submit, after_tick, in_deliver, in_deliveries, in_flush, in_flushes, in_tick, in_ticks, unless_cut}
 
 -- LISTS
 
@@ -173,13 +173,20 @@ module _ (number : ℕ) where
       record { happened = Stopped node.id (map fact_of (take kept (deeds_in past_setting w node event))); told = refl; stop = still_with _ w.nodes refl; ends = (refl, refl) }
 
   event_by_ends : (w : PastWorld) (node : Node PastNode) (event : Event) (outcome : Outcome) → IsEvent w (after_event_by w node event outcome) (event_by past_setting number w node event outcome)
-  event_by_ends w node event Never = went_ends w node event
-  event_by_ends w node event (Reached zero kept signed) = cut_ends w node event kept signed
-  event_by_ends w node event (Reached (suc n) kept signed) = went_ends w node event
+  event_by_ends w node event GoesOn = went_ends w node event
+  event_by_ends w node event (Stops kept signed) = cut_ends w node event kept signed
 
   event_ends : (w : PastWorld) (node : Node PastNode) (event : Event) → IsEvent w (after_event w node event) (event_turn past_setting number w node event)
   unfolding event_turn
-  event_ends w node event = event_by_ends w node event node.pending
+  event_ends w node event = go node.armed
+    where
+      outcome : Outcome
+      outcome = first_outcome w.outcomes
+
+      go : (t : Bool)
+          → IsEvent w (cond t (after_event_by (after_outcome w) node event outcome) (after_event_by w node event GoesOn)) (cond t (event_by past_setting number (with_later w) node event outcome) (event_goes past_setting number w node event))
+      go true = let is = event_by_ends (with_later w) node event outcome in record { happened = is.happened; told = is.told; stop = is.stop; ends = is.ends }
+      go false = went_ends w node event
 
   pub tick_ends : (w : PastWorld) (node : Node PastNode) → IsEvent w (after_tick w node) (tick_at past_setting number w (Some node))
   tick_ends w node = event_ends w node (tick_of past_setting.returns.ways node)
@@ -328,7 +335,7 @@ module _ (number : ℕ) (m : Meaning) where
 
   pub stop_at_tells : (w : PastWorld) (node : Node PastNode) → node_in m ≡ Some node.id → IsAt w node true → Tells (in_world m) number w (after_stop_at w node ∷ []) (stop_at_turn number w node)
   stop_at_tells w node about is =
-      quiet_tells w (after_stop_at w node) (stop_at_turn number w node) (it.Pending node.id) refl (about, runs_with (record node { pending = first_outcome w.outcomes }) node w.nodes is.at is.up) refl refl
+      quiet_tells w (after_stop_at w node) (stop_at_turn number w node) (it.Pending node.id) refl (about, runs_with (record node { armed = true }) node w.nodes is.at is.up) refl refl
 
   pub start_tells : (w : PastWorld) (node : Node PastNode) → node_in m ≡ Some node.id → IsAt w node false → Tells (in_world m) number w (after_start w node ∷ []) (start_turn number w node)
   start_tells w node about is = quiet_tells w (after_start w node) (start_turn number w node) (it.Started node.id) refl (about, runs_with (node_started node) node w.nodes is.at refl) refl refl

@@ -1,6 +1,6 @@
 -- All worlds of a line are good.
 use Rattle.std.proofs.Common.{◌≡◌, ℕ, zero, suc, ◌+◌, ◌-◌, Bool, true, false, ◌&&◌, List, [], ◌∷◌, cond, refl, sym, subst, Option, Some, None, Result, Ok, Err}
-use Rattle.std.specs.Prelude.{◌==◌, drop, not, position, slice_get}
+use Rattle.std.specs.Prelude.{◌==◌, not, position, slice_get}
 use Rattle.std.specs.List.{AllByRecursion, All}
 use Rattle.ord_types.specs.Spelling.{request_text}
 use Rattle.safety_model.specs.State.{Setup}
@@ -12,7 +12,7 @@ use Rattle.script_play.specs.declared.ending.Ending.{Ending}
 use Rattle.script_play.specs.Worlds.{worlds, worlds_after}
 use Rattle.node_model.specs.Keeping.{PastNode, past_ways}
 use Rattle.world_model.specs.Histories.{past_setting}
-use Rattle.world_model.specs.Turns.{delivery, first_outcome, is_running, most_flushed, ordinary, tick_at, submitted}
+use Rattle.world_model.specs.Turns.{delivery, is_running, most_flushed, ordinary, tick_at, submitted}
 use Rattle.world_model.specs.Worlds.{Entry, Node, Outcome, entry, is_waiting, letter_from, marked, node_at, node_started, running, running_at, tick_of, offer_to}
 use Rattle.world_safety.specs.Within.{PastWorld, after_delivery, after_letter, after_start, after_stop, after_stop_at, after_submit, after_tick, in_deliver, in_deliveries, in_flush, in_flushes, in_tick, in_ticks, unless_cut, where_node, where_stopped, worlds_in, worlds_in_turn}
 use Rattle.world_safety.proofs.LyingWithin.{lied_good, proposed_good, sealed_good, voted_good}
@@ -154,18 +154,18 @@ module _ (su : Setup) (number : ℕ) where
   -- SUBMIT and RAW
   submit_good : (w : PastWorld) (node : Node PastNode) (bytes : List ℕ) → IsBytes bytes → GoodWorld su w → NodeIn su w.told w.seals node → GoodWorld su (after_submit w node bytes)
   submit_good w node bytes fits good is =
-      renewed_good su w (submitted node bytes) w.outcomes good
+      renewed_good su w (submitted node bytes) good
       (record { setup = is.setup; id = is.id; correct = is.correct; stands = is.stands; pool = pool_spelled node.pool bytes fits is.pool; stored = is.stored; sealed = is.sealed })
 
   -- STOP AT A CALL and START
   stop_at_good : (w : PastWorld) (node : Node PastNode) → GoodWorld su w → NodeIn su w.told w.seals node → GoodWorld su (after_stop_at w node)
   stop_at_good w node good is =
-      renewed_good su w (record node { pending = first_outcome w.outcomes }) (drop 1 w.outcomes) good
+      renewed_good su w (record node { armed = true }) good
       (record { setup = is.setup; id = is.id; correct = is.correct; stands = is.stands; pool = is.pool; stored = is.stored; sealed = is.sealed })
 
   start_good : (w : PastWorld) (node : Node PastNode) → GoodWorld su w → NodeIn su w.told w.seals node → GoodWorld su (after_start w node)
   start_good w node good is =
-      renewed_good su w (node_started node) w.outcomes good (record { setup = is.setup; id = is.id; correct = is.correct; stands = is.stands; pool = is.pool; stored = is.stored; sealed = is.sealed })
+      renewed_good su w (node_started node) good (record { setup = is.setup; id = is.id; correct = is.correct; stands = is.stands; pool = is.pool; stored = is.stored; sealed = is.sealed })
 
   -- A COMMAND
   if_good : (t : Bool) (worlds others : List PastWorld) → AllByRecursion (GoodWorld su) worlds → AllByRecursion (GoodWorld su) others → AllByRecursion (GoodWorld su) (cond t worlds others)

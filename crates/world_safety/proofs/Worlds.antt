@@ -215,9 +215,8 @@ goes_on_good su w new facts network signed good is =
     }
 
 -- another node of the same id, which did nothing
-pub renewed_good : (su : Setup) (w : World PastNode History) (new : Node PastNode) (outcomes : List Outcome) → GoodWorld su w → NodeIn su w.told w.seals new
-    → GoodWorld su (record w { nodes = with_node new w.nodes; outcomes = outcomes })
-renewed_good su w new outcomes good is =
+pub renewed_good : (su : Setup) (w : World PastNode History) (new : Node PastNode) → GoodWorld su w → NodeIn su w.told w.seals new → GoodWorld su (record w { nodes = with_node new w.nodes })
+renewed_good su w new good is =
     record {
       first = good.first;
       ids = good.ids;
@@ -227,6 +226,23 @@ renewed_good su w new outcomes good is =
       members = with_ids new w.nodes ∙ good.members;
       actors = good.actors;
       nodes = with_new (NodeIn su w.told w.seals) (NodeIn su w.told w.seals) new (λ other not_it before. before) is w.nodes (nodes_apart su w good) good.nodes;
+      network = good.network;
+      certified = good.certified;
+      sealed = good.sealed;
+    }
+
+-- other outcomes of what is to come
+pub later_good : (su : Setup) (w : World PastNode History) (outcomes : List Outcome) → GoodWorld su w → GoodWorld su (record w { outcomes = outcomes })
+later_good su w outcomes good =
+    record {
+      first = good.first;
+      ids = good.ids;
+      bounded = good.bounded;
+      run = good.run;
+      fit = good.fit;
+      members = good.members;
+      actors = good.actors;
+      nodes = good.nodes;
       network = good.network;
       certified = good.certified;
       sealed = good.sealed;

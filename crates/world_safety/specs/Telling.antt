@@ -98,7 +98,7 @@ pub data Reply : Type 0 where
   Sealed : ℕ → Reply
   -- a node that was stopped in the line, which ends so: nothing more is said
   Cut : ℕ → Reply
-  -- the node that will be stopped at a call of its disk, and the one that was started
+  -- the node whose disk is armed to stop at a call, and the one that was started
   Pending : ℕ → Reply
   Started : ℕ → Reply
   Refused : Refusal → Reply

@@ -1,6 +1,6 @@
 -- All worlds that a script goes through: the one after each event of each line, that past the network's limit and those in which a node is stopped
--- included. What becomes of the stops at calls of a node's disk is a list of outcomes.
-use Rattle.std.specs.Prelude.{ℕ, zero, suc, ◌+◌, ◌-◌, ◌&&◌, ◌==◌, nat_lt, not, List, [], ◌∷◌, ◌++◌, drop, length, map, position, slice_get, Option, Some, None, if◌then◌else◌}
+-- included. What becomes of the events of armed nodes is a list of outcomes.
+use Rattle.std.specs.Prelude.{ℕ, zero, suc, ◌+◌, ◌-◌, true, ◌&&◌, ◌==◌, nat_lt, not, List, [], ◌∷◌, ◌++◌, drop, length, map, position, slice_get, Option, Some, None, if◌then◌else◌}
 use Rattle.std.specs.List.{AllByRecursion, Contains}
 use Rattle.ord_types.specs.Members.{fault_bound, how_many_in, is_in}
 use Rattle.ord_types.specs.Spelling.{request_text}
@@ -25,7 +25,7 @@ use Rattle.node_model.specs.Steps.{Event}
 use Rattle.world_model.specs.Histories.{past_setting, worlds_of}
 use Rattle.world_model.specs.Turns.{delivery, first_config, first_outcome, first_world, is_running, most_flushed, ordinary, submitted, tick_at, turn_of}
 use Rattle.world_model.specs.Liars.{commit_for, is_raft_if_any, longest, prepare_for, proposal_of, proposed_in, sig_at, statement_for, with_sent, with_signed}
-use Rattle.world_model.specs.Worlds.{Entry, Never, Node, Outcome, Reached, World, entry, is_waiting, letter_from, making, marked, node_at, node_started, running_at, tick_of, with_node, world_after, world_stopped, world_stopped_in}
+use Rattle.world_model.specs.Worlds.{Entry, GoesOn, Node, Outcome, Stops, World, entry, is_waiting, letter_from, making, marked, node_at, node_started, running_at, tick_of, with_node, world_after, world_stopped, world_stopped_in}
 
 abbrev pub PastWorld : Type 0
 PastWorld = World PastNode History
@@ -33,12 +33,17 @@ PastWorld = World PastNode History
 -- AN EVENT leaves this world, whether the network is then within its limit or past it, or one in which its node is stopped
 
 abbrev pub after_event_by : PastWorld → Node PastNode → Event → Outcome → PastWorld
-after_event_by w node event Never = world_after past_setting w node (making past_setting w node event)
-after_event_by w node event (Reached zero kept signed) = world_stopped_in past_setting w node event kept signed
-after_event_by w node event (Reached (suc n) kept signed) = world_after past_setting w node (making past_setting w node event)
+after_event_by w node event GoesOn = world_after past_setting w node (making past_setting w node event)
+after_event_by w node event (Stops kept signed) = world_stopped_in past_setting w node event kept signed
 
+-- the first outcome is taken
+abbrev pub after_outcome : PastWorld → PastWorld
+after_outcome w = record w { outcomes = drop 1 w.outcomes }
+
+-- an armed node takes one
 abbrev pub after_event : PastWorld → Node PastNode → Event → PastWorld
-after_event w node event = after_event_by w node event node.pending
+after_event w node event =
+    if node.armed then after_event_by (after_outcome w) node event (first_outcome w.outcomes) else after_event_by w node event GoesOn
 
 -- TICK
 
@@ -105,7 +110,7 @@ abbrev pub after_stop : PastWorld → Node PastNode → PastWorld
 after_stop w node = world_stopped past_setting w node [] []
 
 abbrev pub after_stop_at : PastWorld → Node PastNode → PastWorld
-after_stop_at w node = record w { nodes = with_node (record node { pending = first_outcome w.outcomes }) w.nodes; outcomes = drop 1 w.outcomes }
+after_stop_at w node = record w { nodes = with_node (record node { armed = true }) w.nodes }
 
 abbrev pub after_start : PastWorld → Node PastNode → PastWorld
 after_start w node = record w { nodes = with_node (node_started node) w.nodes }
