@@ -143,8 +143,7 @@ module _ (su : Setup) (number : ℕ) where
           (elim o [ None ↦ [] | Some e ↦ after_delivery k e w ∷ worlds_after (delivery past_setting number k e w).next (λ next. unless_cut e.to w next (rest next)) ])
       go None is = tt
       go (Some e) is =
-          let next_good = delivery_good k e w good (found_entry (EntryIn su w.told) w.network k e good.network is) in
-          (
+          let next_good = delivery_good k e w good (found_entry (EntryIn su w.told) w.network k e good.network is) in (
             next_good,
             behind w (after_delivery k e w) (delivery past_setting number k e w) (λ next. unless_cut e.to w next (rest next)) (delivery_ends number k e w) next_good
                 (λ next good. unless_good e.to w next (rest next) (more next good)),
