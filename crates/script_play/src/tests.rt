@@ -29,11 +29,17 @@ const TOO_MANY: Ending = Ending::TooManyFaulty {
 impl Machine for Echo {
     ghost World = { Unit {0} };
 
-    ghost world = { λ _. tt };
+    ghost Choice = { Unit {0} };
+
+    ghost world = { λ _ _. tt };
 
     ghost turn_of = { λ world number command. if number == 5 then limit_turn 5 7 else (if number == 6 then (record { printed = too_many_faulty_text 6 3 2 1; next = Err (TooManyFaulty 6 3 2 1) }) else (record { printed = decimal number ++ codes " done\n"; next = Ok world })) };
 
     ghost closing_of = { λ _. codes "end\n" };
+
+    ghost is_decided = { λ _. Unit {0} };
+
+    ghost decides = { λ _. Unit {0} };
 
     fn turn(
         &mut self,
