@@ -129,8 +129,8 @@ pub PlayedTo-trans : {C : Type 0} (whole middle rest : List C → Run) (old out 
 PlayedTo-trans whole middle rest old out new ending Decided Between Stays before line = record {
   taken = before.taken ++ line.taken;
   took = λ later tells.
-    let so_far = before.took (line.taken ++ later) tells in
-    rw (append_assoc before.taken line.taken later) (TookAllBut-trans old out new _ _ _ so_far (line.took later so_far.tells));
+      let so_far = before.took (line.taken ++ later) tells in
+      rw (append_assoc before.taken line.taken later) (TookAllBut-trans old out new _ _ _ so_far (line.took later so_far.tells));
   end = λ later. rw (append_assoc before.taken line.taken later) (ends_on (whole (before.taken ++ (line.taken ++ later))) (middle (line.taken ++ later)) (rest later) ending (before.end (line.taken ++ later)) (line.end later));
   none_taken = λ decided. none_of_both before.taken line.taken (before.none_taken decided) (line.none_taken (before.stays_decided decided refl));
   stays_decided = λ decided goes_on. line.stays_decided (before.stays_decided decided refl) goes_on;
@@ -142,8 +142,8 @@ pub StoppedIn-trans : {C : Type 0} (whole middle : List C → Run) (old out new 
 StoppedIn-trans whole middle old out new Decided Between before line = record {
   taken = before.taken ++ line.taken;
   front = λ later tells.
-    let so_far = before.took (line.taken ++ later) tells in
-    rw (append_assoc before.taken line.taken later) (TookFront-trans old out new _ _ so_far (line.front later so_far.tells));
+      let so_far = before.took (line.taken ++ later) tells in
+      rw (append_assoc before.taken line.taken later) (TookFront-trans old out new _ _ so_far (line.front later so_far.tells));
   none_taken = λ decided. none_of_both before.taken line.taken (before.none_taken decided) (line.none_taken (before.stays_decided decided refl));
 }
 

@@ -40,8 +40,8 @@ lines-preserved g c =
     record {
       tells = λ reads. step.tells (before.tells reads);
       so_far = λ reads.
-      let line = rw c.in_default.is at (step.plays (before.tells reads)) in
-      PlayedTo-trans _ _ _ _ _ _ _ _ _ _ (before.so_far reads) line;
+          let line = rw c.in_default.is at (step.plays (before.tells reads)) in
+          PlayedTo-trans _ _ _ _ _ _ _ _ _ _ (before.so_far reads) line;
       within = search rules;
       later = search rules;
       later_out = search rules;

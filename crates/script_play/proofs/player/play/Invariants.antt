@@ -16,11 +16,11 @@ invariant-lines g l =
     record {
       tells : IsSome (left l.fn.source) → IsSome (left l.source);
       so_far : IsSome (left l.fn.source) → PlayedTo
-      (λ choices. script_run machine.turn_of machine.closing_of (machine.world l.fn.machine choices) script)
-      (λ choices. run machine.turn_of machine.closing_of rest (machine.world l.machine choices) (l.number + 1))
-      (content l.fn.out) (content l.out) None
-      (StaysDecided (machine.is_decided l.fn.machine) machine.decides (lines script))
-      (StaysDecided (machine.is_decided l.machine) machine.decides rest);
+          (λ choices. script_run machine.turn_of machine.closing_of (machine.world l.fn.machine choices) script)
+          (λ choices. run machine.turn_of machine.closing_of rest (machine.world l.machine choices) (l.number + 1))
+          (content l.fn.out) (content l.out) None
+          (StaysDecided (machine.is_decided l.fn.machine) machine.decides (lines script))
+          (StaysDecided (machine.is_decided l.machine) machine.decides rest);
       within : l.number ≤ 1000000;
       later : g.S.Source.faults l.fn.source ≤ g.S.Source.faults l.source;
       later_out : g.K.Sink.faults l.fn.out ≤ g.K.Sink.faults l.out;
