@@ -1,3 +1,4 @@
 pub mod TurnLemmas
 pub mod TookLemmas
 pub mod WorldLemmas
+pub mod ChoiceLemmas

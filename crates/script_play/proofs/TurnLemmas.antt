@@ -8,7 +8,7 @@ use Rattle.script_play.specs.Turns.{Turn, Turned}
 use Rattle.script_play.specs.Runs.{line_turn, limit_turn, said, max_lines, max_line, LineIs, run, Run, Leaves}
 use Rattle.script_play.specs.declared.ending.Ending.{Ending}
 use Rattle.script_play.specs.declared.ending.Ending.TheVariants.{Done}
-use Rattle.line_flow.specs.Lines.{first_length, lines}
+use Rattle.line_flow.specs.Lines.{lines}
 use Rattle.std.proofs.lemmas.List.{append-nil}
 
 above : (a b : ℕ) → a < b → ltb a b ≡ true
@@ -41,15 +41,14 @@ unfolding run
 leaves_line turn closing world next number ls line more printed None is turned = rw (is, turned.next) (record { text = ap (λ (xs : List ℕ). xs ++ (run turn closing more next (number + 1)).text) (sym turned.printed); end = refl })
 leaves_line turn closing world next number ls line more printed (Some ending) is turned = rw (is, turned.next) (record { text = sym turned.printed ∙ sym (append-nil printed); end = refl })
 
-pub leaves_long : {W : Type 0} (turn : W → ℕ → Command → Turn W) (closing : W → List ℕ) (world next : W) (number : ℕ) (ls : List (List ℕ)) (read printed : List ℕ) (rest : Run) (ending : Option Ending)
-    → max_line < first_length ls → (ending ≢ None) → ((line : List ℕ) → LineIs true line read → Turned (line_turn turn world number line) [] printed next ending)
-    → Leaves (run turn closing ls world number) printed rest ending
+-- a line that ends the run
+pub leaves_last : {W : Type 0} (turn : W → ℕ → Command → Turn W) (closing : W → List ℕ) (world next : W) (number : ℕ) (line : List ℕ) (more : List (List ℕ)) (printed : List ℕ) (rest : Run) (ending : Option Ending)
+    → (ending ≢ None) → Turned (line_turn turn world number line) [] printed next ending
+    → Leaves (run turn closing (line ∷ more) world number) printed rest ending
 unfolding run
-leaves_long turn closing world next number [] read printed rest ending long ends turned = absurd (omega arith)
-leaves_long turn closing world next number (line ∷ more) read printed rest None long ends turned = absurd (ends refl)
-leaves_long turn closing world next number (line ∷ more) read printed rest (Some ending) long ends turned =
-    let made = turned line long in
-    rw made.next (record { text = sym made.printed ∙ sym (append-nil printed); end = refl })
+leaves_last turn closing world next number line more printed rest None ends turned = absurd (ends refl)
+leaves_last turn closing world next number line more printed rest (Some ending) ends turned =
+    rw turned.next (record { text = sym turned.printed ∙ sym (append-nil printed); end = refl })
 
 -- a fact of the value, from the equation that says which it is
 pub IfOk-from_is : {T E : Type 0} (r : Result T E) (Q : T → Type 0) → ((x : T) → r ≡ Ok x → Q x) → IfOk r Q

@@ -4,3 +4,4 @@ pub mod Texts
 pub mod Faults
 pub mod Statuses
 pub mod Worlds
+pub mod Choices

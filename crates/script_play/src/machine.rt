@@ -1,7 +1,7 @@
 ghost use Rattle.std.specs.Prelude.{◌≡◌, ◌++◌, ℕ, List, IfOk, IfSome, OnOk, string_bytes};
 ghost use Rattle.script.specs.Commands.{IsWellFormed};
 ghost use Rattle.script.specs.declared.command.Command.{Command};
-ghost use Rattle.script_play.specs.Turns.{Turn, Turned, EndsTurn};
+ghost use Rattle.script_play.specs.Turns.{Turn, TurnedBy, EndsTurn};
 
 use crate::ending::Ending;
 use ord_types::NoMemory;
@@ -12,8 +12,11 @@ pub trait Machine {
     /// What a machine stands for.
     ghost World: { Type 0 };
 
-    /// The world of a machine.
-    ghost world: { Self → World };
+    /// What may become of one moment that the script doesn't decide.
+    ghost Choice: { Type 0 };
+
+    /// The world of a machine, where these choices are still to come.
+    ghost world: { Self → List Choice → World };
 
     /// What the command of the line with this number prints, and where it leads.
     ghost turn_of: { World → ℕ → Command → Turn World };
@@ -21,8 +24,15 @@ pub trait Machine {
     /// What is printed at the end of a script.
     ghost closing_of: { World → List ℕ };
 
+    /// Nothing is left open: until a command leaves something open, no choice is taken.
+    ghost is_decided: { Self → Type 0 };
+
+    /// A command that leaves nothing open.
+    ghost decides: { Command → Type 0 };
+
     /// Does what the command of this line asks, and adds its text. `Some` ends the run,
-    /// at a limit or where too many members are faulty.
+    /// at a limit or where too many members are faulty. The choices that it takes are the first of
+    /// those that were still to come.
     fn turn(
         &mut self,
         number: u64,
@@ -31,9 +41,9 @@ pub trait Machine {
     ) -> Result<Option<Ending>, NoMemory>
         requires { IsWellFormed command }
         ensures ends { IfOk result (λ ending. IfSome ending EndsTurn) }
-        ensures turned { IfOk result (λ ending. Turned (turn_of (world self.old) number command) (string_bytes text.old) (string_bytes text.new) (world self.new) ending) };
+        ensures turned { IfOk result (λ ending. TurnedBy (λ w. turn_of w number command) (world self.old) (world self.new) (string_bytes text.old) (string_bytes text.new) ending (is_decided self.old × decides command) (is_decided self.new)) };
 
     /// Adds the text at the end of the script.
     fn closing(&self, text: &mut String) -> Result<(), NoMemory>
-        ensures { OnOk result (string_bytes text.new ≡ string_bytes text.old ++ closing_of (world self.now)) };
+        ensures { (later : List Choice) → OnOk result (string_bytes text.new ≡ string_bytes text.old ++ closing_of (world self.now later)) };
 }

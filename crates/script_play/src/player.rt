@@ -1,11 +1,12 @@
 ghost use Rattle.std.specs.Prelude.{true, ◌≡◌, ◌≢◌, ◌≤◌, ◌<◌, ◌+◌, ◌++◌, [], ℕ, IsSome, List, length, false, string_bytes, IfOk, IfErr, OnOk, OnErr, MatchOption, Some, None, Ok, Err};
 ghost use Rattle.ord_types.specs.Causes.{Rose, HasCause};
-ghost use Rattle.ord_types.specs.Told.{told, Took, TookFront, TookAllBut};
+ghost use Rattle.ord_types.specs.Told.{told};
 ghost use Rattle.line_flow.specs.Lines.{lines};
 ghost use Rattle.line_flow.specs.Reader.{ahead};
 ghost use Rattle.script.specs.Grammar.{meaning};
-ghost use Rattle.script_play.specs.Turns.{Turned};
-ghost use Rattle.script_play.specs.Runs.{said, line_turn, run, Leaves, text_left, EndsAs, LineIs, script_run};
+ghost use Rattle.script_play.specs.Turns.{TurnedBy};
+ghost use Rattle.script_play.specs.Runs.{said, line_turn, run, LineIs, script_run};
+ghost use Rattle.script_play.specs.Choices.{MeansOnly, StaysDecided, LeavesBy, PlayedTo, StoppedIn, Played};
 
 use crate::ending::{Ending, Fault};
 use crate::machine::Machine;
@@ -29,7 +30,7 @@ fn say<M: Machine>(
     line: &[u8],
     text: &mut String,
 ) -> Result<Option<Ending>, Fault>
-    ensures said { IfOk result (λ ending. Turned (said M.turn_of (M.world machine.old) number (meaning line.now)) (string_bytes text.old) (string_bytes text.new) (M.world machine.new) ending) }
+    ensures said { IfOk result (λ ending. TurnedBy (λ w. said M.turn_of w number (meaning line.now)) (M.world machine.old) (M.world machine.new) (string_bytes text.old) (string_bytes text.new) ending (M.is_decided machine.old × MeansOnly M.decides line.now) (M.is_decided machine.new)) }
     ensures not_done { result ≢ Ok (Some Ending.Done) }
     ensures memory { IfErr result (λ fault. fault ≡ Fault.OutOfMemory) }
 {
@@ -64,7 +65,7 @@ impl Player {
         long: bool,
     ) -> Result<Option<Ending>, Fault>
         requires { long ≡ false → length self.old.reader.line.items ≤ 8500000 }
-        ensures turned { IfOk result (λ ending. (line : List ℕ) → LineIs long line self.old.reader.line.items → Turned (line_turn M.turn_of (M.world machine.old) number line) [] (string_bytes self.new.text) (M.world machine.new) ending) }
+        ensures turned { IfOk result (λ ending. (line : List ℕ) → LineIs long line self.old.reader.line.items → TurnedBy (λ w. line_turn M.turn_of w number line) (M.world machine.old) (M.world machine.new) [] (string_bytes self.new.text) ending (M.is_decided machine.old × MeansOnly M.decides line) (M.is_decided machine.new)) }
         ensures reader { self.new.reader ≡ self.old.reader }
         ensures not_done { result ≢ Ok (Some Ending.Done) }
         ensures more { result ≡ Ok None → number ≤ 1000000 }
@@ -97,11 +98,15 @@ impl Player {
         number: u64,
     ) -> Result<Option<Ending>, Fault>
         ensures tells { IsSome (S.left source.old) → IsSome (S.left source.new) }
-        ensures leaves { IfOk result (λ ending. IsSome (S.left source.old) → Leaves
-            (run M.turn_of M.closing_of (lines (ahead self.old.reader (S.left source.old))) (M.world machine.old) number)
-            (string_bytes self.new.text)
-            (run M.turn_of M.closing_of (lines (ahead self.new.reader (S.left source.new))) (M.world machine.new) (number + 1))
-            ending) }
+        ensures leaves { IfOk result (λ ending. IsSome (S.left source.old) →
+            let before = lines (ahead self.old.reader (S.left source.old)) in
+            let after = lines (ahead self.new.reader (S.left source.new)) in
+            LeavesBy
+            (λ choices. run M.turn_of M.closing_of before (M.world machine.old choices) number)
+            (λ choices. run M.turn_of M.closing_of after (M.world machine.new choices) (number + 1))
+            (string_bytes self.new.text) ending
+            (StaysDecided (M.is_decided machine.old) M.decides before)
+            (StaysDecided (M.is_decided machine.new) M.decides after)) }
         ensures more { result ≡ Ok None → number ≤ 1000000 }
         ensures all_read { result ≡ Ok (Some Ending.Done) → IsSome (S.left source.old) → told (S.left source.new) ≡ [] }
         ensures cause { result ≡ Err Fault.ReadFault → Rose (S.faults source.old) (S.faults source.new) }
@@ -128,14 +133,21 @@ impl Player {
         number: u64,
     ) -> Result<Option<Ending>, Fault>
         ensures tells { IsSome (S.left source.old) → IsSome (S.left source.new) }
-        ensures taken { IfOk result (λ ending. IsSome (S.left source.old) → IsSome (K.content out.old) → TookAllBut (K.content out.old) (K.content out.new)
-            (run M.turn_of M.closing_of (lines (ahead self.old.reader (S.left source.old))) (M.world machine.old) number).text
-            (text_left (run M.turn_of M.closing_of (lines (ahead self.new.reader (S.left source.new))) (M.world machine.new) (number + 1)) ending)) }
-        ensures end { IfOk result (λ ending. IsSome (S.left source.old) → EndsAs
-            (run M.turn_of M.closing_of (lines (ahead self.old.reader (S.left source.old))) (M.world machine.old) number)
-            (run M.turn_of M.closing_of (lines (ahead self.new.reader (S.left source.new))) (M.world machine.new) (number + 1)) ending) }
-        ensures front { OnErr result (IsSome (S.left source.old) → IsSome (K.content out.old) → TookFront (K.content out.old) (K.content out.new)
-            (run M.turn_of M.closing_of (lines (ahead self.old.reader (S.left source.old))) (M.world machine.old) number).text) }
+        ensures plays { IfOk result (λ ending. IsSome (S.left source.old) →
+            let before = lines (ahead self.old.reader (S.left source.old)) in
+            let after = lines (ahead self.new.reader (S.left source.new)) in
+            PlayedTo
+            (λ choices. run M.turn_of M.closing_of before (M.world machine.old choices) number)
+            (λ choices. run M.turn_of M.closing_of after (M.world machine.new choices) (number + 1))
+            (K.content out.old) (K.content out.new) ending
+            (StaysDecided (M.is_decided machine.old) M.decides before)
+            (StaysDecided (M.is_decided machine.new) M.decides after)) }
+        ensures stops { OnErr result (IsSome (S.left source.old) →
+            let before = lines (ahead self.old.reader (S.left source.old)) in
+            StoppedIn
+            (λ choices. run M.turn_of M.closing_of before (M.world machine.old choices) number)
+            (K.content out.old) (K.content out.new)
+            (StaysDecided (M.is_decided machine.old) M.decides before)) }
         ensures more { result ≡ Ok None → number ≤ 1000000 }
         ensures all_read { result ≡ Ok (Some Ending.Done) → IsSome (S.left source.old) → told (S.left source.new) ≡ [] }
         ensures read_fault { result ≡ Err Fault.ReadFault → Rose (S.faults source.old) (S.faults source.new) }
@@ -149,23 +161,23 @@ impl Player {
     }
 }
 
-/// Plays a script on a machine. What is written is the text of the script, or after a fault a front of it.
+/// Plays a script on a machine. What is written is the text of the script by the choices that were
+/// taken, or after a fault a front of it. No choice is taken where all is decided.
 pub fn play<M: Machine, S: Source, K: Sink>(
     alloc: Global,
     machine: &mut M,
     source: &mut S,
     out: &mut K,
 ) -> Result<Ending, Fault>
-    // An ending is the script's own, and its whole text is written.
-    ensures text { OnOk result (IsSome (S.left source.old) → IsSome (K.content out.old) → Took (K.content out.old) (K.content out.new)
-        (script_run M.turn_of M.closing_of (M.world machine.old) (told (S.left source.old))).text) }
-    ensures end { IfOk result (λ ending. IsSome (S.left source.old) →
-        ending ≡ (script_run M.turn_of M.closing_of (M.world machine.old) (told (S.left source.old))).ending) }
+    // By some choices, an ending is the script's own, and its whole text is written; after a fault a front of it is written.
+    ensures played { IsSome (S.left source.old) →
+        let script = told (S.left source.old) in
+        Played (λ choices. script_run M.turn_of M.closing_of (M.world machine.old choices) script)
+        (K.content out.old) (K.content out.new) result
+        (StaysDecided (M.is_decided machine.old) M.decides (lines script)) }
     ensures all_read { result ≡ Ok Ending.Done → IsSome (S.left source.old) → told (S.left source.new) ≡ [] }
 
-    // After a fault a front of it is written, and the fault has its cause.
-    ensures front { OnErr result (IsSome (S.left source.old) → IsSome (K.content out.old) → TookFront (K.content out.old) (K.content out.new)
-        (script_run M.turn_of M.closing_of (M.world machine.old) (told (S.left source.old))).text) }
+    // A fault has its cause.
     ensures read_fault { result ≡ Err Fault.ReadFault → Rose (S.faults source.old) (S.faults source.new) }
     ensures write_fault { result ≡ Err Fault.WriteFault → Rose (K.faults out.old) (K.faults out.new) }
     ensures later { S.faults source.old ≤ S.faults source.new }

@@ -1,4 +1,4 @@
-ghost use Rattle.std.specs.Prelude.{◌≡◌, ◌==◌, ◌++◌, ℕ, Ok, Err, codes, decimal, if◌then◌else◌};
+ghost use Rattle.std.specs.Prelude.{◌≡◌, ◌==◌, ◌++◌, ℕ, Bool, false, List, Ok, Err, codes, decimal, drop, if◌then◌else◌, slice_get, unwrap_or};
 ghost use Rattle.script_play.specs.Runs.{limit_turn};
 ghost use Rattle.script_play.specs.declared.ending.Ending.TheVariants.{TooManyFaulty};
 ghost use Rattle.script_play.specs.Texts.{too_many_faulty_text};
@@ -14,9 +14,13 @@ use std::alloc::Global;
 use std::test::Fail;
 
 /// Says that a command was done, and ends the run at line 5 by a limit, and at line 6 because too many
-/// are faulty.
+/// are faulty. An unsure one may say of any other line that its command was lost.
 #[derive(Drop)]
-struct Echo;
+struct Echo {
+    unsure: bool,
+    /// Whether the next command is lost.
+    lost: bool,
+}
 
 /// How line 6 ends a run.
 const TOO_MANY: Ending = Ending::TooManyFaulty {
@@ -27,13 +31,23 @@ const TOO_MANY: Ending = Ending::TooManyFaulty {
 };
 
 impl Machine for Echo {
-    ghost World = { Unit {0} };
+    ghost World = { Bool × List Bool };
 
-    ghost world = { λ _. tt };
+    ghost Choice = { Bool };
 
-    ghost turn_of = { λ world number command. if number == 5 then limit_turn 5 7 else (if number == 6 then (record { printed = too_many_faulty_text 6 3 2 1; next = Err (TooManyFaulty 6 3 2 1) }) else (record { printed = decimal number ++ codes " done\n"; next = Ok world })) };
+    ghost world = { λ echo later. (echo.unsure, later) };
+
+    ghost turn_of = { λ world number command.
+        if number == 5 then limit_turn 5 7
+        else (if number == 6 then (record { printed = too_many_faulty_text 6 3 2 1; next = Err (TooManyFaulty 6 3 2 1) })
+        else (if world.0 then (record { printed = decimal number ++ (if unwrap_or (slice_get world.1 0) false then codes " lost\n" else codes " done\n"); next = Ok (world.0, drop 1 world.1) })
+        else (record { printed = decimal number ++ codes " done\n"; next = Ok world }))) };
 
     ghost closing_of = { λ _. codes "end\n" };
+
+    ghost is_decided = { λ echo. echo.unsure ≡ false };
+
+    ghost decides = { λ _. Unit {0} };
 
     fn turn(
         &mut self,
@@ -49,6 +63,16 @@ impl Machine for Echo {
             put_too_many_faulty(text, 6, 3, 2, 1)?;
             return Ok(Some(TOO_MANY));
         }
+        if self.unsure {
+            if self.lost {
+                write!(text, "{number} lost\n")?;
+                self.lost = false;
+                return Ok(None);
+            }
+            write!(text, "{number} done\n")?;
+            self.lost = true;
+            return Ok(None);
+        }
         write!(text, "{number} done\n")?;
         Ok(None)
     }
@@ -62,6 +86,7 @@ impl Machine for Echo {
 /// Plays a script over a source and a sink of which these calls fail, and what was written.
 fn played(
     alloc: Global,
+    unsure: bool,
     script: &[u8],
     read: u64,
     write: u64,
@@ -72,7 +97,8 @@ fn played(
     writes.push(write)?;
     let mut source = MemSource::new(Bytes::from_slice(alloc, script)?, reads);
     let mut sink = MemSink::new(alloc, writes)?;
-    let result = play(alloc, &mut Echo, &mut source, &mut sink);
+    let mut echo = Echo { unsure, lost: true };
+    let result = play(alloc, &mut echo, &mut source, &mut sink);
     Ok((result, sink))
 }
 
@@ -111,11 +137,19 @@ fn scripts(rt: HostRuntime) -> Result<(), Fail> {
             5,
         ),
     ] {
-        let (result, sink) = played(rt.alloc(), script, 0, 0)?;
+        let (result, sink) = played(rt.alloc(), false, script, 0, 0)?;
         assert_eq!(rt; result, Ok(ending));
         assert_eq!(rt; sink.bytes(), text);
         assert_eq!(rt; status(ending), number);
     }
+    Ok(())
+}
+
+#[test]
+fn choices(rt: HostRuntime) -> Result<(), Fail> {
+    let (result, sink) = played(rt.alloc(), true, b"tick 1\n\nflush\nflush", 0, 0)?;
+    assert_eq!(rt; result, Ok(Ending::Done));
+    assert_eq!(rt; sink.bytes(), b"1 lost\n3 done\n4 lost\nend\n".as_slice());
     Ok(())
 }
 
@@ -128,7 +162,7 @@ fn limits(rt: HostRuntime) -> Result<(), Fail> {
         (b'\n', 1_000_001, b"1000001 limit 1000000\n"),
     ] {
         let script = vec![in rt.alloc(); byte; count]?;
-        let (_, sink) = played(rt.alloc(), script.as_slice(), 0, 0)?;
+        let (_, sink) = played(rt.alloc(), false, script.as_slice(), 0, 0)?;
         assert_eq!(rt; sink.bytes(), text);
     }
     Ok(())
@@ -138,7 +172,7 @@ fn limits(rt: HostRuntime) -> Result<(), Fail> {
 fn faults(rt: HostRuntime) -> Result<(), Fail> {
     let script = b"tick 1\nflush";
     for (read, text) in [(1, b"".as_slice()), (2, b"1 done\n")] {
-        let (result, sink) = played(rt.alloc(), script, read, 0)?;
+        let (result, sink) = played(rt.alloc(), false, script, read, 0)?;
         assert_eq!(rt; result, Err(Fault::ReadFault));
         assert_eq!(rt; sink.bytes(), text);
     }
@@ -147,7 +181,7 @@ fn faults(rt: HostRuntime) -> Result<(), Fail> {
         (2, b"1 done\n"),
         (3, b"1 done\n2 done\n"),
     ] {
-        let (result, sink) = played(rt.alloc(), script, 0, write)?;
+        let (result, sink) = played(rt.alloc(), false, script, 0, write)?;
         assert_eq!(rt; result, Err(Fault::WriteFault));
         assert_eq!(rt; sink.bytes(), text);
     }
