@@ -7,6 +7,8 @@ mod byzantine_tests;
 mod commands;
 mod offline;
 #[cfg(test)]
+mod stop_tests;
+#[cfg(test)]
 mod tests;
 
 use adapters::{NoSource, Reading, Writing};

@@ -1,0 +1,194 @@
+//! Scripts in which nodes stop and start again.
+use crate::tests::played;
+use std::alloc::Global;
+use std::fmt::Write;
+use std::str;
+use std::test::Fail;
+
+/// The worked examples with stops.
+#[test]
+fn stop_examples(rt: HostRuntime) -> Result<(), Fail> {
+    for (script, text) in [
+        (
+            b"genesis bft 1,2,3,4 batch=1
+submit 1 1 1 aa
+stop-at 1 4 keep
+tick 1
+start 1
+submit 1 1 2 bb
+tick 1
+flush
+"
+            .as_slice(),
+            b"1 genesis
+2 submit 1 admitted
+3 stop-at 1
+4 stopped 1
+5 start 1
+6 submit 1 admitted
+7 tick 1
+8 block 1 1 config 0 view 0 requests 1 first 1:1 signers 1,3,4
+8 block 2 1 config 0 view 0 requests 1 first 1:1 signers 2,3,4
+8 block 3 1 config 0 view 0 requests 1 first 1:1 signers 1,3,4
+8 block 4 1 config 0 view 0 requests 1 first 1:1 signers 1,3,4
+8 flush 27
+node 1 height 2 config 0 view 0 left 0
+node 2 height 2 config 0 view 0 left 0
+node 3 height 2 config 0 view 0 left 0
+node 4 height 2 config 0 view 0 left 0
+sent 27
+"
+            .as_slice(),
+        ),
+        (
+            b"genesis bft 1,2,3,4 batch=1 byz=4
+stop 2 drop
+tick 2
+submit 2 1 1 aa
+show 2 0
+stop 2 keep
+stop-at 2 1 keep
+start 1
+stop 4 keep
+start 5
+lie 4 2 ff
+deliver 1
+flush
+start 2
+flush
+stop 3 fill=ff
+",
+            b"1 genesis
+2 stopped 2
+3 refused stopped
+4 refused stopped
+5 refused stopped
+6 refused stopped
+7 refused stopped
+8 refused running
+9 refused no core
+10 refused unknown node
+11 lie 1
+12 deliver 0
+13 flush 0
+14 start 2
+15 flush 1
+16 stopped 3
+node 1 height 1 config 0 view 0 left 0
+node 2 height 1 config 0 view 0 left 0
+node 3 stopped
+node 4 byzantine
+sent 1
+",
+        ),
+        // a line in which a stop is reached ends there, and what was to come is delivered later
+        (
+            b"genesis bft 1,2,3,4 batch=1
+submit 1 1 1 aa
+tick 1
+stop-at 2 1 keep
+flush
+start 2
+flush
+",
+            b"1 genesis
+2 submit 1 admitted
+3 tick 1
+4 stop-at 2
+5 stopped 2
+6 start 2
+7 block 1 1 config 0 view 0 requests 1 first 1:1 signers 1,3,4
+7 block 3 1 config 0 view 0 requests 1 first 1:1 signers 1,3,4
+7 block 4 1 config 0 view 0 requests 1 first 1:1 signers 1,3,4
+7 flush 16
+node 1 height 2 config 0 view 0 left 0
+node 2 height 1 config 0 view 0 left 0
+node 3 height 2 config 0 view 0 left 0
+node 4 height 2 config 0 view 0 left 0
+sent 18
+",
+        ),
+    ] {
+        let (status, sink) = played(rt.alloc(), script, 0, 0)?;
+        assert_eq!(rt; status, 0);
+        assert_eq!(rt; sink.bytes(), text);
+    }
+    Ok(())
+}
+
+/// A script of three requests in which a node is to stop at a call of its disk.
+fn stopping(alloc: Global, node: u32, call: u32, mode: &str) -> Result<String, Fail> {
+    let mut script = String::new(alloc);
+    write!(
+        script,
+        "genesis bft 1,2,3,4 batch=1\nstop-at {node} {call} {mode}\n"
+    )?;
+    for serial in 1..4 {
+        write!(script, "submit 1 1 {serial} aa\ntick 1\nflush\n")?;
+    }
+    write!(script, "start {node}\n")?;
+    for id in 1..5 {
+        write!(script, "tick {id} 2\n")?;
+    }
+    script.push_str("flush\n")?;
+    for number in 1..4 {
+        for id in 1..5 {
+            write!(script, "show {id} {number}\n")?;
+        }
+    }
+    Ok(script)
+}
+
+/// Where the word stands in a text, as a slice that begins behind it.
+fn behind<'a>(text: &'a str, word: &str) -> Option<&'a str> {
+    let (_, rest) = text.split_once(word)?;
+    Some(rest)
+}
+
+/// Whether the shown blocks of one number, one in each line, have one hash.
+fn agree(text: &str, number: u32, alloc: Global) -> Result<bool, Fail> {
+    let mut word = String::new(alloc);
+    write!(word, " {number} config")?;
+    let mut first: Option<&str> = None;
+    for line in text.split('\n') {
+        if let Some(rest) = behind(line, word.as_str()) {
+            if let Some(hash) = behind(rest, " hash ") {
+                match first {
+                    None => first = Some(hash),
+                    Some(other) => {
+                        if other != hash {
+                            return Ok(false);
+                        }
+                    }
+                }
+            }
+        }
+    }
+    Ok(true)
+}
+
+/// Each node of a script of three requests is stopped at each counted call of its disk, with each image, and started again. What
+/// the nodes show then agrees.
+#[test]
+fn stopped_everywhere(rt: HostRuntime) -> Result<(), Fail> {
+    for mode in ["keep", "drop", "fill=ff"] {
+        for node in 1..5 {
+            let mut call = 1;
+            loop {
+                let script = stopping(rt.alloc(), node, call, mode)?;
+                let (status, sink) = played(rt.alloc(), script.as_bytes(), 0, 0)?;
+                assert_eq!(rt; status, 0);
+                let text = str::from_utf8(sink.bytes()).unwrap();
+                for number in 1..4 {
+                    assert!(rt; agree(text, number, rt.alloc())?);
+                }
+                if !text.contains(" stopped ") {
+                    break;
+                }
+                call += 1;
+            }
+            assert!(rt; call > 10);
+        }
+    }
+    Ok(())
+}
