@@ -97,15 +97,15 @@ flush
 4 stop-at 2
 5 stopped 2
 6 start 2
-7 block 1 1 config 0 view 0 requests 1 first 1:1 signers 1,3,4
 7 block 3 1 config 0 view 0 requests 1 first 1:1 signers 1,3,4
+7 block 1 1 config 0 view 0 requests 1 first 1:1 signers 1,3,4
 7 block 4 1 config 0 view 0 requests 1 first 1:1 signers 1,3,4
-7 flush 16
+7 flush 20
 node 1 height 2 config 0 view 0 left 0
 node 2 height 1 config 0 view 0 left 0
 node 3 height 2 config 0 view 0 left 0
 node 4 height 2 config 0 view 0 left 0
-sent 18
+sent 21
 ",
         ),
     ] {
@@ -167,28 +167,40 @@ fn agree(text: &str, number: u32, alloc: Global) -> Result<bool, Fail> {
     Ok(true)
 }
 
-/// Each node of a script of three requests is stopped at each counted call of its disk, with each image, and started again. What
+/// Each node of a script of three requests is stopped at each counted call of its disk, with this image, and started again. What
 /// the nodes show then agrees.
-#[test]
-fn stopped_everywhere(rt: HostRuntime) -> Result<(), Fail> {
-    for mode in ["keep", "drop", "fill=ff"] {
-        for node in 1..5 {
-            let mut call = 1;
-            loop {
-                let script = stopping(rt.alloc(), node, call, mode)?;
-                let (status, sink) = played(rt.alloc(), script.as_bytes(), 0, 0)?;
-                assert_eq!(rt; status, 0);
-                let text = str::from_utf8(sink.bytes()).unwrap();
-                for number in 1..4 {
-                    assert!(rt; agree(text, number, rt.alloc())?);
-                }
-                if !text.contains(" stopped ") {
-                    break;
-                }
-                call += 1;
+fn stops_agree(rt: HostRuntime, mode: &str) -> Result<(), Fail> {
+    for node in 1..5 {
+        let mut call = 1;
+        loop {
+            let script = stopping(rt.alloc(), node, call, mode)?;
+            let (status, sink) = played(rt.alloc(), script.as_bytes(), 0, 0)?;
+            assert_eq!(rt; status, 0);
+            let text = str::from_utf8(sink.bytes()).unwrap();
+            for number in 1..4 {
+                assert!(rt; agree(text, number, rt.alloc())?);
             }
-            assert!(rt; call > 10);
+            if !text.contains(" stopped ") {
+                break;
+            }
+            call += 1;
         }
+        assert!(rt; call > 10);
     }
     Ok(())
+}
+
+#[test]
+fn stopped_and_kept(rt: HostRuntime) -> Result<(), Fail> {
+    stops_agree(rt, "keep")
+}
+
+#[test]
+fn stopped_and_dropped(rt: HostRuntime) -> Result<(), Fail> {
+    stops_agree(rt, "drop")
+}
+
+#[test]
+fn stopped_and_filled(rt: HostRuntime) -> Result<(), Fail> {
+    stops_agree(rt, "fill=ff")
 }
