@@ -14,7 +14,7 @@ abbrev pub MeansOnly : (Command → Type 0) → List ℕ → Type 0
 MeansOnly P line = (command : Command) → meaning line ≡ Means command → P command
 
 -- all is decided, and each command of these lines leaves it so
-pub record StaysDecided (Decided : Type 0) (decides : Command → Type 0) (ls : List (List ℕ)) : Type 0 where
+pub record AllDecided (Decided : Type 0) (decides : Command → Type 0) (ls : List (List ℕ)) : Type 0 where
   pub decided : Decided
   pub each : AllByRecursion (MeansOnly decides) ls
 
@@ -25,7 +25,8 @@ pub record LeavesBy {C : Type 0} (whole rest : List C → Run) (printed : List �
   pub none_taken : Decided → taken ≡ []
   pub stays_decided : Decided → ending ≡ None → Stays
 
--- Some choices were taken so far, and with any that come later the sink took the text of the whole run but for the rest's, and both end alike.
+-- Some choices were taken so far, and with any that come later a sink that tells its bytes took the text of the whole run but for the rest's, and
+-- both end alike.
 pub record PlayedTo {C : Type 0} (whole rest : List C → Run) (old new : Option (List ℕ)) (ending : Option Ending) (Decided Stays : Type 0) : Type 0 where
   pub taken : List C
   pub took : (later : List C) → IsSome old → TookAllBut old new (whole (taken ++ later)).text (text_left (rest later) ending)
@@ -33,7 +34,7 @@ pub record PlayedTo {C : Type 0} (whole rest : List C → Run) (old new : Option
   pub none_taken : Decided → taken ≡ []
   pub stays_decided : Decided → ending ≡ None → Stays
 
--- Some choices were taken until a fault, and with any that come later the sink took a front of the text.
+-- Some choices were taken until a fault, and with any that come later such a sink took a front of the text.
 pub record StoppedIn {C : Type 0} (whole : List C → Run) (old new : Option (List ℕ)) (Decided : Type 0) : Type 0 where
   pub taken : List C
   pub front : (later : List C) → IsSome old → TookFront old new (whole (taken ++ later)).text

@@ -15,7 +15,8 @@ pub record Turned {W : Type 0} (turn : Turn W) (before after : List ℕ) (world 
 
 -- Some choices were taken, and with any that come later the turn leads from world to world. Where all was decided none was taken, and all
 -- stays decided unless the run has ended.
-pub record TurnedBy {W C : Type 0} (turn : W → Turn W) (old new : List C → W) (before after : List ℕ) (ending : Option Ending) (Decided Stays : Type 0) : Type 0 where
+pub record TurnedBy {W C : Type 0} (turn : W → Turn W) (old new : List C → W) (before after : List ℕ) (ending : Option Ending)
+    (Decided Stays : Type 0) : Type 0 where
   pub taken : List C
   pub turned : (later : List C) → Turned (turn (old (taken ++ later))) before after (new later) ending
   pub none_taken : Decided → taken ≡ []

@@ -1,4 +1,4 @@
-ghost use Rattle.std.specs.Prelude.{true, ◌≡◌, ◌≢◌, ◌≤◌, ◌<◌, ◌+◌, ◌++◌, [], ℕ, IsSome, List, length, false, string_bytes, IfOk, IfErr, OnOk, OnErr, MatchOption, Some, None, Ok, Err};
+ghost use Rattle.std.specs.Prelude.{true, ◌≡◌, ◌≢◌, ◌≤◌, ◌<◌, ◌+◌, ◌++◌, [], ℕ, IsSome, List, length, false, string_bytes, IfOk, IfErr, OnErr, MatchOption, Some, None, Ok, Err};
 ghost use Rattle.ord_types.specs.Causes.{Rose, HasCause};
 ghost use Rattle.ord_types.specs.Told.{told};
 ghost use Rattle.line_flow.specs.Lines.{lines};
@@ -6,7 +6,7 @@ ghost use Rattle.line_flow.specs.Reader.{ahead};
 ghost use Rattle.script.specs.Grammar.{meaning};
 ghost use Rattle.script_play.specs.Turns.{TurnedBy};
 ghost use Rattle.script_play.specs.Runs.{said, line_turn, run, LineIs, script_run};
-ghost use Rattle.script_play.specs.Choices.{MeansOnly, StaysDecided, LeavesBy, PlayedTo, StoppedIn, Played};
+ghost use Rattle.script_play.specs.Choices.{MeansOnly, AllDecided, LeavesBy, PlayedTo, StoppedIn, Played};
 
 use crate::ending::{Ending, Fault};
 use crate::machine::Machine;
@@ -105,8 +105,8 @@ impl Player {
             (λ choices. run M.turn_of M.closing_of before (M.world machine.old choices) number)
             (λ choices. run M.turn_of M.closing_of after (M.world machine.new choices) (number + 1))
             (string_bytes self.new.text) ending
-            (StaysDecided (M.is_decided machine.old) M.decides before)
-            (StaysDecided (M.is_decided machine.new) M.decides after)) }
+            (AllDecided (M.is_decided machine.old) M.decides before)
+            (AllDecided (M.is_decided machine.new) M.decides after)) }
         ensures more { result ≡ Ok None → number ≤ 1000000 }
         ensures all_read { result ≡ Ok (Some Ending.Done) → IsSome (S.left source.old) → told (S.left source.new) ≡ [] }
         ensures cause { result ≡ Err Fault.ReadFault → Rose (S.faults source.old) (S.faults source.new) }
@@ -140,14 +140,14 @@ impl Player {
             (λ choices. run M.turn_of M.closing_of before (M.world machine.old choices) number)
             (λ choices. run M.turn_of M.closing_of after (M.world machine.new choices) (number + 1))
             (K.content out.old) (K.content out.new) ending
-            (StaysDecided (M.is_decided machine.old) M.decides before)
-            (StaysDecided (M.is_decided machine.new) M.decides after)) }
+            (AllDecided (M.is_decided machine.old) M.decides before)
+            (AllDecided (M.is_decided machine.new) M.decides after)) }
         ensures stops { OnErr result (IsSome (S.left source.old) →
             let before = lines (ahead self.old.reader (S.left source.old)) in
             StoppedIn
             (λ choices. run M.turn_of M.closing_of before (M.world machine.old choices) number)
             (K.content out.old) (K.content out.new)
-            (StaysDecided (M.is_decided machine.old) M.decides before)) }
+            (AllDecided (M.is_decided machine.old) M.decides before)) }
         ensures more { result ≡ Ok None → number ≤ 1000000 }
         ensures all_read { result ≡ Ok (Some Ending.Done) → IsSome (S.left source.old) → told (S.left source.new) ≡ [] }
         ensures read_fault { result ≡ Err Fault.ReadFault → Rose (S.faults source.old) (S.faults source.new) }
@@ -174,7 +174,7 @@ pub fn play<M: Machine, S: Source, K: Sink>(
         let script = told (S.left source.old) in
         Played (λ choices. script_run M.turn_of M.closing_of (M.world machine.old choices) script)
         (K.content out.old) (K.content out.new) result
-        (StaysDecided (M.is_decided machine.old) M.decides (lines script)) }
+        (AllDecided (M.is_decided machine.old) M.decides (lines script)) }
     ensures all_read { result ≡ Ok Ending.Done → IsSome (S.left source.old) → told (S.left source.new) ≡ [] }
 
     // A fault has its cause.

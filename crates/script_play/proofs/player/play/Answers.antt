@@ -12,9 +12,10 @@ returns-in_err-new-clause-played g c =
 
 pub lines-init : goal.lines-init
 lines-init g c =
+    let script = told (g.S.Source.left c.args.source.now) in
     record {
       tells = λ tells. tells;
-      so_far = λ _. PlayedTo-start _ _ _ _ _ _ _ _ _ (ap (λ (bytes : List ℕ). lines (bytes ++ told (g.S.Source.left c.args.source.now))) c.in_ok-new.ensures);
+      so_far = λ _. PlayedTo-start _ _ _ _ _ _ _ _ _ (ap (λ (bytes : List ℕ). lines (bytes ++ script)) c.in_ok-new.ensures);
       within = search rules;
       later = search rules;
       later_out = search rules;

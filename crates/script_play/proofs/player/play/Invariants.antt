@@ -3,7 +3,7 @@ use Rattle.ord_types.specs.Told.{told}
 use Rattle.line_flow.specs.Lines.{lines}
 use Rattle.line_flow.specs.Reader.{ahead}
 use Rattle.script_play.specs.Runs.{run, script_run}
-use Rattle.script_play.specs.Choices.{PlayedTo, StaysDecided}
+use Rattle.script_play.specs.Choices.{PlayedTo, AllDecided}
 use Rattle.script_play.proofs.player.play.Given as goal
 
 abbrev pub invariant-lines : goal.invariant-lines
@@ -19,8 +19,8 @@ invariant-lines g l =
           (λ choices. script_run machine.turn_of machine.closing_of (machine.world l.fn.machine choices) script)
           (λ choices. run machine.turn_of machine.closing_of rest (machine.world l.machine choices) (l.number + 1))
           (content l.fn.out) (content l.out) None
-          (StaysDecided (machine.is_decided l.fn.machine) machine.decides (lines script))
-          (StaysDecided (machine.is_decided l.machine) machine.decides rest);
+          (AllDecided (machine.is_decided l.fn.machine) machine.decides (lines script))
+          (AllDecided (machine.is_decided l.machine) machine.decides rest);
       within : l.number ≤ 1000000;
       later : g.S.Source.faults l.fn.source ≤ g.S.Source.faults l.source;
       later_out : g.K.Sink.faults l.fn.out ≤ g.K.Sink.faults l.out;

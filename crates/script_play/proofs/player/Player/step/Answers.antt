@@ -12,4 +12,5 @@ pub returns-in_err-write_all-clause-stops : goal.returns-in_err-write_all-clause
 returns-in_err-write_all-clause-stops g c =
     let err = err_from_is_err_and c.from_residual-in_err-write_all.result c.from_residual-in_err-write_all.ensures.1 in
     rw err.1 (λ reads.
-    StoppedIn-from_line _ _ (string_bytes c.turn.new.self.text) _ _ _ _ _ (c.in_ok-ending.ensures.leaves reads) (λ tells. rw c.as_bytes.ensures.value at (c.in_err-write_all.ensures.front tells)))
+    StoppedIn-from_line _ _ (string_bytes c.turn.new.self.text) _ _ _ _ _ (c.in_ok-ending.ensures.leaves reads)
+    (λ tells. rw c.as_bytes.ensures.value at (c.in_err-write_all.ensures.front tells)))
