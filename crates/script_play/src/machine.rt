@@ -24,6 +24,9 @@ pub trait Machine {
     /// What is printed at the end of a script.
     ghost closing_of: { World → List ℕ };
 
+    /// What a machine keeps true from line to line.
+    ghost is_sound: { Self → Type 0 };
+
     /// Nothing is left open: until a command leaves something open, no choice is taken.
     ghost is_decided: { Self → Type 0 };
 
@@ -39,11 +42,14 @@ pub trait Machine {
         command: Command,
         text: &mut String,
     ) -> Result<Option<Ending>, NoMemory>
-        requires { IsWellFormed command }
+        requires sound { is_sound self.old }
+        requires formed { IsWellFormed command }
+        ensures sound { OnOk result (is_sound self.new) }
         ensures ends { IfOk result (λ ending. IfSome ending EndsTurn) }
         ensures turned { IfOk result (λ ending. TurnedBy (λ w. turn_of w number command) (world self.old) (world self.new) (string_bytes text.old) (string_bytes text.new) ending (is_decided self.old × decides command) (is_decided self.new)) };
 
     /// Adds the text at the end of the script.
     fn closing(&self, text: &mut String) -> Result<(), NoMemory>
+        requires { is_sound self.now }
         ensures { (later : List Choice) → OnOk result (string_bytes text.new ≡ string_bytes text.old ++ closing_of (world self.now later)) };
 }

@@ -1,4 +1,4 @@
-ghost use Rattle.std.specs.Prelude.{true, ◌≡◌, ◌≢◌, ◌≤◌, ◌<◌, ◌+◌, ◌++◌, [], ℕ, IsSome, List, length, false, string_bytes, IfOk, IfErr, OnErr, MatchOption, Some, None, Ok, Err};
+ghost use Rattle.std.specs.Prelude.{true, ◌≡◌, ◌≢◌, ◌≤◌, ◌<◌, ◌+◌, ◌++◌, [], ℕ, IsSome, List, length, false, string_bytes, IfOk, IfErr, OnErr, OnOk, MatchOption, Some, None, Ok, Err};
 ghost use Rattle.ord_types.specs.Causes.{Rose, HasCause};
 ghost use Rattle.ord_types.specs.Told.{told};
 ghost use Rattle.line_flow.specs.Lines.{lines};
@@ -30,6 +30,8 @@ fn say<M: Machine>(
     line: &[u8],
     text: &mut String,
 ) -> Result<Option<Ending>, Fault>
+    requires { M.is_sound machine.old }
+    ensures sound { OnOk result (M.is_sound machine.new) }
     ensures said { IfOk result (λ ending. TurnedBy (λ w. said M.turn_of w number (meaning line.now)) (M.world machine.old) (M.world machine.new) (string_bytes text.old) (string_bytes text.new) ending (M.is_decided machine.old × MeansOnly M.decides line.now) (M.is_decided machine.new)) }
     ensures not_done { result ≢ Ok (Some Ending.Done) }
     ensures memory { IfErr result (λ fault. fault ≡ Fault.OutOfMemory) }
@@ -64,7 +66,9 @@ impl Player {
         number: u64,
         long: bool,
     ) -> Result<Option<Ending>, Fault>
-        requires { long ≡ false → length self.old.reader.line.items ≤ 8500000 }
+        requires sound { M.is_sound machine.old }
+        requires short { long ≡ false → length self.old.reader.line.items ≤ 8500000 }
+        ensures sound { OnOk result (M.is_sound machine.new) }
         ensures turned { IfOk result (λ ending. (line : List ℕ) → LineIs long line self.old.reader.line.items → TurnedBy (λ w. line_turn M.turn_of w number line) (M.world machine.old) (M.world machine.new) [] (string_bytes self.new.text) ending (M.is_decided machine.old × MeansOnly M.decides line) (M.is_decided machine.new)) }
         ensures reader { self.new.reader ≡ self.old.reader }
         ensures not_done { result ≢ Ok (Some Ending.Done) }
@@ -97,6 +101,8 @@ impl Player {
         source: &mut S,
         number: u64,
     ) -> Result<Option<Ending>, Fault>
+        requires { M.is_sound machine.old }
+        ensures sound { OnOk result (M.is_sound machine.new) }
         ensures tells { IsSome (S.left source.old) → IsSome (S.left source.new) }
         ensures leaves { IfOk result (λ ending. IsSome (S.left source.old) →
             let before = lines (ahead self.old.reader (S.left source.old)) in
@@ -132,6 +138,8 @@ impl Player {
         out: &mut K,
         number: u64,
     ) -> Result<Option<Ending>, Fault>
+        requires { M.is_sound machine.old }
+        ensures sound { OnOk result (M.is_sound machine.new) }
         ensures tells { IsSome (S.left source.old) → IsSome (S.left source.new) }
         ensures plays { IfOk result (λ ending. IsSome (S.left source.old) →
             let before = lines (ahead self.old.reader (S.left source.old)) in
@@ -169,6 +177,8 @@ pub fn play<M: Machine, S: Source, K: Sink>(
     source: &mut S,
     out: &mut K,
 ) -> Result<Ending, Fault>
+    requires { M.is_sound machine.old }
+
     // By some choices, an ending is the script's own, and its whole text is written; after a fault a front of it is written.
     ensures played { IsSome (S.left source.old) →
         let script = told (S.left source.old) in

@@ -45,6 +45,8 @@ impl Machine for Echo {
 
     ghost closing_of = { λ _. codes "end\n" };
 
+    ghost is_sound = { λ _. Unit {0} };
+
     ghost is_decided = { λ echo. echo.unsure ≡ false };
 
     ghost decides = { λ _. Unit {0} };

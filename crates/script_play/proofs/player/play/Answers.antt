@@ -14,6 +14,7 @@ pub lines-init : goal.lines-init
 lines-init g c =
     let script = told (g.S.Source.left c.args.source.now) in
     record {
+      sound = c.requires;
       tells = λ tells. tells;
       so_far = λ _. PlayedTo-start _ _ _ _ _ _ _ _ _ (ap (λ (bytes : List ℕ). lines (bytes ++ script)) c.in_ok-new.ensures);
       within = search rules;
@@ -39,6 +40,7 @@ lines-preserved g c =
     let before = c.lines.invariant in
     let step = c.in_ok-ending.ensures in
     record {
+      sound = step.sound;
       tells = λ reads. step.tells (before.tells reads);
       so_far = λ reads.
           let line = rw c.in_default.is at (step.plays (before.tells reads)) in

@@ -14,6 +14,7 @@ invariant-lines g l =
     let script = told (left l.fn.source) in
     let rest = lines (ahead l.player.reader (left l.source)) in
     record {
+      sound : machine.is_sound l.machine;
       tells : IsSome (left l.fn.source) → IsSome (left l.source);
       so_far : IsSome (left l.fn.source) → PlayedTo
           (λ choices. script_run machine.turn_of machine.closing_of (machine.world l.fn.machine choices) script)

@@ -38,5 +38,5 @@ returns-clause-turned g c =
     (λ (ending : Option Ending). (line : List ℕ) → LineIs c.args.long line read → by ending line)
     (λ ending by line is. rw (line_is _ _ _ c.if-long.false is)
     (TurnedBy-same (λ w. said turn w number (meaning read)) (λ w. line_turn turn w number read) _ _ _ _ _ _ _ _
-    (λ w. turn_said turn w number read (omega arith) (c.requires c.if-long.false)) (λ all. all) by))
+    (λ w. turn_said turn w number read (omega arith) (c.requires.short c.if-long.false)) (λ all. all) by))
     (rw (c.line.ensures, c.clear.ensures.bytes) at c.say.ensures.said)
