@@ -1,22 +1,33 @@
--- The whole text is a front of itself.
-use Rattle.std.proofs.Common.{sym, ap, [], List, ℕ, Option, subst}
-use Rattle.std.proofs.lemmas.List.{append-nil}
-use Rattle.ord_types.specs.Told.{told, Took}
+use Rattle.std.proofs.Common.{◌≡◌, ◌∙◌, ap, List, refl}
+use Rattle.std.specs.List.{AllByRecursion}
+use Rattle.line_flow.specs.Lines.{lines}
+use Rattle.ord_types.specs.Told.{told}
+use Rattle.node_model.specs.Restarts.{Returned}
+use Rattle.script_play.specs.Choices.{MeansOnly}
 use Rattle.script_play.specs.Runs.{Run, script_run}
-use Rattle.script_play.proofs.TookLemmas.{TookAllBut-from_whole}
-use Rattle.node_model.specs.Cores.{Core}
-use Rattle.world_model.specs.Worlds.{World}
 use Rattle.world_model.specs.Cores.{core_setting}
-use Rattle.world_model.specs.Turns.{turn_of, closing_of}
 use Rattle.world_model.specs.Histories.{run_of}
-use Rattle.world_model.proofs.RunLemmas.{runs_agree}
+use Rattle.world_model.specs.Stages.{Stage, stage_closing, stage_turn}
+use Rattle.world_model.specs.Worlds.{Outcome}
+use Rattle.world_model.proofs.RunLemmas.{stages_agree}
+use Rattle.world_run.specs.Lines.{decides}
+use Rattle.orderer.proofs.PlayLemmas.{plays_script, tells_fault}
 use Rattle.orderer.proofs.offline.run_world.Goals as goal
 
-pub returns-in-Ok-clause-front : goal.returns-in-Ok-clause-front
-returns-in-Ok-clause-front g c = λ reads tells.
+pub returns-in-Ok-clause-plays : goal.returns-in-Ok-clause-plays
+returns-in-Ok-clause-plays g c = λ reads.
     let script = told (g.S.Source.left c.args.source.now) in
-    let P : Option (World Core (Unit {0})) → Type 0 = λ world. Took (g.K.Sink.content c.args.out.now) (g.K.Sink.content c.play.new.out) (script_run (turn_of core_setting) (closing_of core_setting) world script).text in
-    let took = subst P c.new-runner.ensures (c.in-Ok.ensures.text reads tells) in
-    let Q : List ℕ → Type 0 = λ text. Took (g.K.Sink.content c.args.out.now) (g.K.Sink.content c.play.new.out) text in
-    let whole = subst Q (ap (λ (run : Run). run.text) (runs_agree script)) took in
-    ([], TookAllBut-from_whole _ _ _ _ [] whole (sym (append-nil (run_of [] script).text)))
+    let run = λ (stage : Stage Returned (Unit {0})). script_run (stage_turn core_setting) (stage_closing core_setting) stage script in
+    plays_script _ script _ _ _ _ _
+    (λ outcomes. ap run (c.new-runner.ensures.world outcomes) ∙ stages_agree outcomes script)
+    (λ none. record { decided = c.new-runner.ensures.decided; each = none })
+    c.status.ensures.value (c.in-Ok.ensures.played reads)
+
+pub returns-in-Err-clause-plays : goal.returns-in-Err-clause-plays
+returns-in-Err-clause-plays g c = λ reads.
+    let script = told (g.S.Source.left c.args.source.now) in
+    let run = λ (stage : Stage Returned (Unit {0})). script_run (stage_turn core_setting) (stage_closing core_setting) stage script in
+    plays_script _ script _ _ _ _ _
+    (λ outcomes. ap run (c.new-runner.ensures.world outcomes) ∙ stages_agree outcomes script)
+    (λ none. record { decided = c.new-runner.ensures.decided; each = none })
+    (tells_fault _ _ c.fault_status.ensures) (c.in-Err.ensures.played reads)
