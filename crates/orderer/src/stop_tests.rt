@@ -81,7 +81,7 @@ node 4 byzantine
 sent 1
 ",
         ),
-        // a line in which a stop is reached ends there, and what was to come is delivered later
+        // a flush goes on where a stop is reached
         (
             b"genesis bft 1,2,3,4 batch=1
 submit 1 1 1 aa
@@ -96,11 +96,12 @@ flush
 3 tick 1
 4 stop-at 2
 5 stopped 2
+5 block 3 1 config 0 view 0 requests 1 first 1:1 signers 1,3,4
+5 block 1 1 config 0 view 0 requests 1 first 1:1 signers 1,3,4
+5 block 4 1 config 0 view 0 requests 1 first 1:1 signers 1,3,4
+5 flush 15
 6 start 2
-7 block 3 1 config 0 view 0 requests 1 first 1:1 signers 1,3,4
-7 block 1 1 config 0 view 0 requests 1 first 1:1 signers 1,3,4
-7 block 4 1 config 0 view 0 requests 1 first 1:1 signers 1,3,4
-7 flush 20
+7 flush 6
 node 1 height 2 config 0 view 0 left 0
 node 2 height 1 config 0 view 0 left 0
 node 3 height 2 config 0 view 0 left 0
@@ -145,11 +146,12 @@ fn behind<'a>(text: &'a str, word: &str) -> Option<&'a str> {
     Some(rest)
 }
 
-/// Whether the shown blocks of one number, one in each line, have one hash.
-fn agree(text: &str, number: u32, alloc: Global) -> Result<bool, Fail> {
+/// How many blocks of one number are shown, one in each line, where all have one hash.
+fn agree(text: &str, number: u32, alloc: Global) -> Result<Option<u32>, Fail> {
     let mut word = String::new(alloc);
     write!(word, " {number} config")?;
     let mut first: Option<&str> = None;
+    let mut count = 0;
     for line in text.split('\n') {
         if let Some(rest) = behind(line, word.as_str()) {
             if let Some(hash) = behind(rest, " hash ") {
@@ -157,18 +159,20 @@ fn agree(text: &str, number: u32, alloc: Global) -> Result<bool, Fail> {
                     None => first = Some(hash),
                     Some(other) => {
                         if other != hash {
-                            return Ok(false);
+                            return Ok(None);
                         }
                     }
                 }
+                count += 1;
             }
         }
     }
-    Ok(true)
+    Ok(Some(count))
 }
 
 /// Each node of a script of three requests is stopped at each counted call of its disk, with this image, and started again. What
-/// the nodes show then agrees.
+/// the nodes show then agrees. Where a follower is stopped, the others deliver all three blocks; where the leader is, a block that
+/// one of them delivers is delivered by three.
 fn stops_agree(rt: HostRuntime, mode: &str) -> Result<(), Fail> {
     for node in 1..5 {
         let mut call = 1;
@@ -177,12 +181,19 @@ fn stops_agree(rt: HostRuntime, mode: &str) -> Result<(), Fail> {
             let (status, sink) = played(rt.alloc(), script.as_bytes(), 0, 0)?;
             assert_eq!(rt; status, 0);
             let text = str::from_utf8(sink.bytes()).unwrap();
+            let stopped = text.contains(" stopped ");
             for number in 1..4 {
-                assert!(rt; agree(text, number, rt.alloc())?);
+                let shown = agree(text, number, rt.alloc())?;
+                assert!(rt; shown.is_some());
+                let count = shown.unwrap_or(0);
+                assert!(rt; count >= 3 || node == 1 && count == 0);
+                assert!(rt; stopped || count == 4);
             }
-            if !text.contains(" stopped ") {
+            if !stopped {
                 break;
             }
+            // the node runs again at the end
+            assert!(rt; !text.contains("refused stopped\nnode"));
             call += 1;
         }
         assert!(rt; call > 10);

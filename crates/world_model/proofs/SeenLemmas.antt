@@ -292,13 +292,10 @@ deliver_same number (range ∷ ranges) count w all =
 
 flushed_same : (number k : ℕ) (w : Past) (o : Option Entry) (done : Turn Past) (core_done : Turn InPlace) (rest : Past → Turn Past) (core_rest : InPlace → Turn InPlace)
     → NoneAhead w → Same done core_done → ((next : Past) → NoneAhead next → Same (rest next) (core_rest (seen next)))
-    → Same (elim o [ None ↦ done | Some e ↦ goes_on (delivery past_setting number k e w) (λ next. unless_stopped e.to w next (rest next)) ])
-    (elim o [ None ↦ core_done | Some e ↦ goes_on (delivery core_setting number k e (seen w)) (λ next. unless_stopped e.to (seen w) next (core_rest next)) ])
+    → Same (elim o [ None ↦ done | Some e ↦ goes_on (delivery past_setting number k e w) rest ]) (elim o [ None ↦ core_done | Some e ↦ goes_on (delivery core_setting number k e (seen w)) core_rest ])
 flushed_same number k w None done core_done rest core_rest all same more = same
 flushed_same number k w (Some e) done core_done rest core_rest all same more =
-    let then = λ (next : Past) (ahead : NoneAhead next). unless_same e.to w next (rest next) (core_rest (seen next)) all ahead (more next ahead) in
-    goes_on_same seen seen NoneAhead NoneAhead (delivery past_setting number k e w) (delivery core_setting number k e (seen w)) (λ next. unless_stopped e.to w next (rest next)) (λ next. unless_stopped e.to (seen w) next (core_rest next))
-    (delivery_same number k e w all) then
+    goes_on_same seen seen NoneAhead NoneAhead (delivery past_setting number k e w) (delivery core_setting number k e (seen w)) rest core_rest (delivery_same number k e w all) more
 
 flushes_same : (number : ℕ) (w : Past) (o : Option ℕ) (done : Turn Past) (core_done : Turn InPlace) (rest : Past → Turn Past) (core_rest : InPlace → Turn InPlace)
     → NoneAhead w → Same done core_done → ((next : Past) → NoneAhead next → Same (rest next) (core_rest (seen next)))

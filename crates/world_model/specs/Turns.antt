@@ -93,7 +93,7 @@ deliver_turn setting number [] count w = says (deliver_text number count) w
 deliver_turn setting number (range ∷ ranges) count w =
     deliveries setting number (range.last + 1 - range.first) range.first count w (λ more next. deliver_turn setting number ranges more next)
 
--- FLUSH: at most 10,000 entries, each time the least that waits; a line in which a receiver is stopped ends there
+-- FLUSH: at most 10,000 entries, each time the least that waits; it goes on where a receiver is stopped, and counts that entry
 
 abbrev pub most_flushed : ℕ
 most_flushed = 10000
@@ -101,7 +101,7 @@ most_flushed = 10000
 abbrev pub flushes : {S T : Type 0} → Setting S T → ℕ → World S T → Option ℕ → Turn (World S T) → (World S T → Turn (World S T)) → Turn (World S T)
 flushes setting number w None done rest = done
 flushes setting number w (Some k) done rest =
-    elim (slice_get w.network k) [ None ↦ done | Some e ↦ goes_on (delivery setting number k e w) (λ next. unless_stopped e.to w next (rest next)) ]
+    elim (slice_get w.network k) [ None ↦ done | Some e ↦ goes_on (delivery setting number k e w) rest ]
 
 unfoldable pub flush_turn : {S T : Type 0} → Setting S T → ℕ → Option (List ℕ) → ℕ → ℕ → World S T → Turn (World S T)
 flush_turn setting number only zero count w = says (flush_text number count) w

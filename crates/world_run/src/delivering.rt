@@ -227,8 +227,8 @@ impl World {
         }
     }
 
-    /// Delivers the entries that wait, between these ids alone where there are some. A line in which a receiver is stopped
-    /// ends there.
+    /// Delivers the entries that wait, between these ids alone where there are some. It goes on where a receiver is stopped,
+    /// and counts that entry.
     pub(crate) fn flush<N: Nodes>(
         &mut self,
         nodes: &mut N,
@@ -245,12 +245,8 @@ impl World {
         let mut count = 0;
         while count < MOST_FLUSHED && at < self.outside.network.len() {
             if self.is_waiting(only, at) {
-                let to = self.outside.network[at].to;
                 if let Some(ending) = self.deliver_entry(nodes, at)? {
                     return Ok(Some(ending));
-                }
-                if !self.is_running(to) {
-                    return Ok(None);
                 }
                 count += 1;
             }

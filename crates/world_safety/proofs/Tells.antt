@@ -296,13 +296,10 @@ module _ (number : ℕ) (m : Meaning) where
   flushes_tell w (Some k) count within rest more = go (slice_get w.network k)
     where
       go : (o : Option Entry)
-          → Tells (in_world m) number w
-          (elim o [ None ↦ [] | Some e ↦ after_delivery k e w ∷ worlds_after (delivery past_setting number k e w).next (λ next. unless_cut e.to w next (within next)) ])
-          (elim o [ None ↦ says (flush_text number count) w | Some e ↦ goes_on (delivery past_setting number k e w) (λ next. unless_stopped e.to w next (rest next)) ])
+          → Tells (in_world m) number w (elim o [ None ↦ [] | Some e ↦ after_delivery k e w ∷ worlds_after (delivery past_setting number k e w).next within ])
+          (elim o [ None ↦ says (flush_text number count) w | Some e ↦ goes_on (delivery past_setting number k e w) rest ])
       go None = replies number (in_world m) w (says (flush_text number count) w) (it.Flushed count) refl refl tt
-      go (Some e) =
-          event_then w (after_delivery k e w) (delivery past_setting number k e w) (λ next. unless_cut e.to w next (within next)) (λ next. unless_stopped e.to w next (rest next)) (delivery_ends number k e w)
-          (λ next. cut_tells e.to w next (within next) (rest next) (more next))
+      go (Some e) = event_then w (after_delivery k e w) (delivery past_setting number k e w) within rest (delivery_ends number k e w) more
 
   pub flush_tells : (only : Option (List ℕ)) (n count : ℕ) (w : PastWorld) → Tells (in_world m) number w (in_flush number only n w) (flush_turn past_setting number only n count w)
   unfolding flush_turn in_flush

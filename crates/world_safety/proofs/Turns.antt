@@ -139,15 +139,11 @@ module _ (su : Setup) (number : ℕ) where
   flushes_good w (Some k) rest good more = go (slice_get w.network k) refl
     where
       go : (o : Option Entry) → slice_get w.network k ≡ o
-          → AllByRecursion (GoodWorld su)
-          (elim o [ None ↦ [] | Some e ↦ after_delivery k e w ∷ worlds_after (delivery past_setting number k e w).next (λ next. unless_cut e.to w next (rest next)) ])
+          → AllByRecursion (GoodWorld su) (elim o [ None ↦ [] | Some e ↦ after_delivery k e w ∷ worlds_after (delivery past_setting number k e w).next rest ])
       go None is = tt
       go (Some e) is =
-          let next_good = delivery_good k e w good (found_entry (EntryIn su w.told) w.network k e good.network is) in (
-            next_good,
-            behind w (after_delivery k e w) (delivery past_setting number k e w) (λ next. unless_cut e.to w next (rest next)) (delivery_ends number k e w) next_good
-                (λ next good. unless_good e.to w next (rest next) (more next good)),
-          )
+          let next_good = delivery_good k e w good (found_entry (EntryIn su w.told) w.network k e good.network is) in
+          (next_good, behind w (after_delivery k e w) (delivery past_setting number k e w) rest (delivery_ends number k e w) next_good more)
 
   flush_good : (only : Option (List ℕ)) (n : ℕ) (w : PastWorld) → GoodWorld su w → AllByRecursion (GoodWorld su) (in_flush number only n w)
   unfolding in_flush

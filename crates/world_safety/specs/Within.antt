@@ -92,10 +92,7 @@ in_deliver number (range ∷ ranges) w = in_deliveries number (range.last + 1 - 
 abbrev pub in_flushes : ℕ → PastWorld → Option ℕ → (PastWorld → List PastWorld) → List PastWorld
 in_flushes number w None rest = []
 in_flushes number w (Some k) rest =
-    elim (slice_get w.network k) [
-      | None ↦ []
-      | Some e ↦ after_delivery k e w ∷ worlds_after (delivery past_setting number k e w).next (λ next. unless_cut e.to w next (rest next))
-    ]
+    elim (slice_get w.network k) [ None ↦ [] | Some e ↦ after_delivery k e w ∷ worlds_after (delivery past_setting number k e w).next rest ]
 
 -- one after each of at most n entries, each time the least that waits
 unfoldable pub in_flush : ℕ → Option (List ℕ) → ℕ → PastWorld → List PastWorld
