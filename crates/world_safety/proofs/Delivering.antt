@@ -19,7 +19,7 @@ use Rattle.node_model.specs.Letters.{is_commit_for}
 use Rattle.node_model.specs.Leading.{Place}
 use Rattle.node_model.specs.Checks.{is_next_block}
 use Rattle.node_model.specs.Acts.{View, certificate, commits, delivery_due, delivery_if, first_of, kept_sig, sig_in}
-use Rattle.world_safety.proofs.Fits.{CertFits}
+use Rattle.world_safety.specs.Fits.{CertFits}
 use Rattle.world_safety.proofs.Ids.{IsSigOf, cert_fits}
 use Rattle.world_safety.proofs.Standing.{DeliveriesAreAllowed, IsKeptWell, Stands}
 

@@ -23,13 +23,13 @@ use Rattle.world_model.specs.Worlds.{GoesOn, Node, Outcome, Stops, World, deeds_
 use Rattle.world_safety.specs.Certified.{IsCertifiedFact}
 use Rattle.world_safety.specs.Safe.{IsPreparedStatement}
 use Rattle.world_safety.specs.Within.{after_event, after_event_by, after_outcome}
+use Rattle.world_safety.specs.Steps.{ArePrepared, IsGoodEvent, IsGoodPost, NodeStands}
 use Rattle.world_safety.proofs.Deeds.{AreDeeds, deeds_are, deeds_fit}
-use Rattle.world_safety.proofs.Fits.{FactFits}
+use Rattle.world_safety.specs.Fits.{FactFits}
 use Rattle.world_safety.proofs.Fronts.{fronts_made}
 use Rattle.world_safety.proofs.Ids.{member_has}
 use Rattle.world_safety.proofs.Lists.{all_append, all_map, all_mapped, all_parts, all_reverse, all_taken, all_unmapped}
-use Rattle.world_safety.proofs.Makings.{ArePrepared, IsGoodPost, MakingStands, told}
-use Rattle.world_safety.proofs.Nodes.{IsGoodEvent, NodeStands}
+use Rattle.world_safety.proofs.Makings.{MakingStands, told}
 use Rattle.world_safety.proofs.Own.{stored_more}
 use Rattle.world_safety.proofs.Reading.{EntryIn, entry_over, posted_in, seals_fit}
 use Rattle.world_safety.proofs.Reopening.{DeedFits, did_deeds, reopened}

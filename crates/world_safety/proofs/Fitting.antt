@@ -22,7 +22,7 @@ use Rattle.node_model.specs.Leading.{Place, is_at_start, leader, meta_eq, next_m
 use Rattle.node_model.specs.Checks.{is_block_of_view, is_carried_good, is_next_block, signers_carried}
 use Rattle.node_model.specs.Acts.{View, acceptance_due, block_if, carried_cert, first_of, is_acceptable, is_inside_view, is_voting, kept_proposal, may_propose, proposal, proposed}
 use Rattle.world_safety.proofs.Delivering.{next_is}
-use Rattle.world_safety.proofs.Fits.{CertFits, FitsAt}
+use Rattle.world_safety.specs.Fits.{CertFits, FitsAt}
 use Rattle.world_safety.proofs.Standing.{IsKeptWell, Stands as StandsBy}
 
 pub all_stands : (P : Fact → Type 0) (h : History) (f : Fact) → AllByRecursion P h → Stands h f → P f

@@ -7,7 +7,7 @@ use Rattle.std.proofs.lemmas.List.{length-map}
 use Rattle.ord_types.specs.Grammar.{AreSigs, Ascend, HasIdsSpelling, HasSigSpelling, IsWord}
 use Rattle.ord_types.specs.Members.{is_in}
 use Rattle.ord_types.specs.declared.values.Sig.{Sig}
-use Rattle.world_safety.proofs.Fits.{CertFits}
+use Rattle.world_safety.specs.Fits.{CertFits}
 
 -- what holds of all members holds of each
 pub member_has : (P : ℕ → Type 0) (id : ℕ) (members : List ℕ) → AllByRecursion P members → is_in id members ≡ true → P id

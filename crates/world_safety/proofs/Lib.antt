@@ -1,5 +1,4 @@
 pub mod Lists
-pub mod Fits
 pub mod Ids
 pub mod Standing
 pub mod Fitting

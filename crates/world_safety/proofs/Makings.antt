@@ -28,6 +28,7 @@ use Rattle.node_model.specs.Past.{Past, Did, Signed, facts_of}
 use Rattle.node_model.specs.Keeping.{PastNode, past_ways, place_of, view_of}
 use Rattle.node_model.specs.Steps.{Event, Keys, Making, Post, Tick, FromMember, accept_round, commit_message, deliver_round, makes_accepted, makes_delivered, makes_prepared, own_rule, prepare_message, prepare_round, preprepare_message, propose_round, rounds, to_all, votes}
 use Rattle.world_safety.specs.Resting.{has_ground}
+use Rattle.world_safety.specs.Steps.{ArePrepared, IsBounded, IsGoodEvent, IsGoodMessage, IsGoodPost, NodeStands, SignsFit}
 use Rattle.world_safety.proofs.Standing.{Bounded}
 use Rattle.world_safety.proofs.Lists.{all_append, all_flat, all_map, all_mapped, all_within}
 use Rattle.world_safety.proofs.Ids.{all_members}
@@ -35,13 +36,13 @@ use Rattle.world_safety.proofs.Accepting.{acceptances_allowed, proposals_allowed
 use Rattle.world_safety.proofs.Preparing.{due_is, preparations_allowed}
 use Rattle.world_safety.proofs.Delivering.{deliveries_allowed, delivery_is, delivery_spelled}
 use Rattle.world_safety.proofs.Fronts.{Fronts, fronts_fact, fronts_signed}
-use Rattle.world_safety.proofs.Fits.{DeliveredFits, FactFits, FitsAt}
+use Rattle.world_safety.specs.Fits.{DeliveredFits, FactFits, FitsAt}
 use Rattle.world_safety.proofs.Fitting.{PlaceFits, acceptance_fits, proposal_fits, view_fits}
 use Rattle.world_safety.specs.Safe.{IsPreparedStatement}
 use Rattle.world_safety.proofs.Backing.{statement_more}
-use Rattle.world_safety.proofs.Placing.{IsBounded, genesis_first, place_fits}
+use Rattle.world_safety.proofs.Placing.{genesis_first, place_fits}
 use Rattle.world_safety.proofs.Sending.{commit_fits, hash_fits, prepare_fits, preprepare_fits}
-use Rattle.world_safety.proofs.Nodes.{IsGoodEvent, NodeStands, did_accept, did_deliver, did_prepare, ground_more, signed_commit, stands, stands_last}
+use Rattle.world_safety.proofs.Nodes.{did_accept, did_deliver, did_prepare, ground_more, signed_commit, stands, stands_last}
 
 -- a node that isn't Byzantine, where no more members are than the bound allows
 pub node_bounded : (su : Setup) (h : History) (i : ℕ) → IsBounded su → is_in i su.byzantine ≡ false → Bounded su h i
@@ -56,20 +57,6 @@ node_bounded su h i bounded correct =
 -- all facts, with those that a step made so far
 abbrev pub told : History → Making PastNode → History
 told h m = reverse m.facts ++ h
-
--- a message that member i sends rests on a fact, and has a spelling
-pub record IsGoodMessage (h : History) (i : ℕ) (message : Message) : Type 0 where
-  pub ground : has_ground h i message ≡ true
-  pub spelled : HasMessageSpelling message
-
--- and goes to one of the members
-pub record IsGoodPost (members : List ℕ) (h : History) (i : ℕ) (post : Post) : Type 0 where
-  pub message : IsGoodMessage h i post.message
-  pub to : is_in post.to members ≡ true
-
--- these statements are of what node i prepared among these facts, or before
-abbrev pub ArePrepared : History → ℕ → List Fact → List (List ℕ) → Type 0
-ArePrepared h i facts statements = AllByRecursion (IsPreparedStatement (reverse facts ++ h) i) statements
 
 -- a step in which the node did nothing yet
 abbrev pub beginning : PastNode → List Post → Making PastNode
@@ -132,10 +119,6 @@ sent_all h i members all message same good =
     let within : AllByRecursion (λ to. is_in to all ≡ true) others = all_within (λ to. is_in to all ≡ true) (λ to. not (to == i)) members (subst (λ all. AllByRecursion (λ to. is_in to all ≡ true) members) same (all_members members)) in
     all_mapped (IsGoodPost all h i) (λ to. record { to = to; message = message }) others
     (all_map (λ to. is_in to all ≡ true) (λ to. IsGoodPost all h i (record { to = to; message = message })) (λ to is. record { message = good; to = is }) others within)
-
--- what the keys sign with has a spelling
-abbrev pub SignsFit : Keys → Type 0
-SignsFit keys = (statements : List (List ℕ)) → HasSigSpelling (keys.signs statements)
 
 -- what the node holds
 unfoldable pub place_in : PastNode → Place

@@ -16,7 +16,7 @@ use Rattle.safety_model.specs.State.{Setup, config_of, height, is_inside, left, 
 use Rattle.safety_model.specs.Rules.{IsRun, actor}
 use Rattle.safety_model.proofs.FactTests.{bytes_eq_refl}
 use Rattle.safety_model.proofs.Deliveries.{tip_number}
-use Rattle.safety_model.proofs.StateFacts.{first_view, moves, moves_actor, never_against}
+use Rattle.safety_model.proofs.StateFacts.{first_view, moves_actor, never_against}
 use Rattle.signer_edge.specs.Accepts.{Accepts}
 use Rattle.bft_wire.specs.declared.message.Message.{Message}
 use Rattle.bft_wire.specs.declared.message.Message.TheVariants as wire
@@ -30,41 +30,11 @@ use Rattle.node_model.specs.Past.{Past, Opened, Came, Did, Signed, accepted_bloc
 use Rattle.node_model.specs.Restarts.{Found, found_of}
 use Rattle.node_model.specs.Keeping.{firsts, is_of_view, is_timely, kept, letter_of, of_another, own_commit, place_of, timely, view_of}
 use Rattle.world_safety.specs.Resting.{has_ground, own}
-use Rattle.world_safety.proofs.Standing.{IsKeptWell, Stands, StandsLast, names, rests}
-use Rattle.world_safety.proofs.Fits.{ActFits, FitsAt, MessageFits}
+use Rattle.world_safety.specs.Steps.{IsBrought, IsFound, IsGoodEvent, IsGoodLetter, NodeStands, acts_of, names, rests}
+use Rattle.world_safety.proofs.Standing.{IsKeptWell, Stands, StandsLast}
+use Rattle.world_safety.specs.Fits.{ActFits, FitsAt, MessageFits}
 use Rattle.world_safety.proofs.Lists.{all_append, all_filter, all_map, all_reverse}
 use Rattle.world_safety.proofs.Own.{config_own, height_own, left_own, own_more, own_other, tip_own, view_own}
-
--- a letter rests on a fact, names its sender, and has a spelling
-pub record IsGoodLetter (su : Setup) (h : History) (letter : Letter) : Type 0 where
-  pub rests : rests su h letter ≡ true
-  pub named : names letter.from letter.message ≡ true
-  pub fits : MessageFits letter.message
-
--- what a node did, the newest first, each fact with the block that an acceptance names
-abbrev pub acts_of : Past → List (Fact × Option Block)
-acts_of [] = []
-acts_of (Opened ∷ past) = acts_of past
-acts_of (Came event accepts ∷ past) = acts_of past
-acts_of (Did f b ∷ past) = (f, b) ∷ acts_of past
-acts_of (Signed m accepts ∷ past) = acts_of past
-
--- what an opening found rests on facts of the node, and its block fits
-pub record IsFound (h : History) (i : ℕ) (f : Found) : Type 0 where
-  pub accepted : has (is_accepted i f.config f.view f.height (block_hash f.block)) h ≡ true
-  pub prepared : f.is_prepared ≡ true → has (is_prepared i f.config f.view f.height (block_hash f.block)) h ≡ true
-  pub fits : FitsAt f.height f.block
-
--- node i with this past, where these are all facts; it never left or entered a view
-pub record NodeStands (su : Setup) (h : History) (i : ℕ) (past : Past) : Type 0 where
-  pub own : own i h ≡ facts_of past
-  pub still : has (moves i) h ≡ false
-  pub timely : AllByRecursion (IsGoodLetter su h) (timely su i past)
-  pub accepted : (e v s : ℕ) (b : Block) → accepted_block i e v s past ≡ Some b → has (is_accepted i e v s (block_hash b)) h ≡ true
-  pub fresh : (e v s : ℕ) → accepted_block i e v s past ≡ None → has (is_accepted_at i e v s) h ≡ false
-  pub fits : (e v s : ℕ) (b : Block) → accepted_block i e v s past ≡ Some b → FitsAt s b
-  pub acts : AllByRecursion (λ act. ActFits act.0 act.1) (acts_of past)
-  pub found : (f : Found) → found_of su i past ≡ Some f → IsFound h i f
 
 -- FACTS ARE ONLY ADDED
 
@@ -219,11 +189,6 @@ timely_names su i h accepts letter is =
     && is_inside i c.number (view_in letter.message) h && is_near (height i h) letter) (is_signed accepts letter.from letter.message) is in
     signed_names accepts letter.from letter.message p.1
 
--- a letter that comes rests on a fact, and has a spelling
-pub record IsBrought (su : Setup) (h : History) (letter : Letter) : Type 0 where
-  pub rests : rests su h letter ≡ true
-  pub fits : MessageFits letter.message
-
 timely_good : (su : Setup) (h : History) (i : ℕ) (g : History) (accepts : Accepts) (letters : List Letter) → AllByRecursion (IsBrought su h) letters
     → AllByRecursion (IsGoodLetter su h) (filter (is_timely su i g accepts) letters)
 timely_good su h i g accepts letters all =
@@ -246,11 +211,6 @@ signed_commit su h i past m accepts st is fits =
       acts = st.acts;
       found = st.found;
     }
-
--- what an event brings is good: the requests have a spelling, and so has the vote message that the bytes spell, which rests on a fact
-abbrev pub IsGoodEvent : Setup → History → Event → Type 0
-IsGoodEvent su h (Tick offer) = All HasRequestSpelling offer
-IsGoodEvent su h (FromMember from bytes) = (letter : Letter) → letter_in from bytes ≡ Some letter → IsBrought su h letter
 
 letter_brought : (su : Setup) (h : History) (i : ℕ) (event : Event) → IsGoodEvent su h event → AllByRecursion (IsBrought su h) (letter_of i event)
 letter_brought su h i (Tick offer) good = tt

@@ -16,17 +16,11 @@ use Rattle.safety_model.proofs.Chains.{config_stays}
 use Rattle.safety_model.proofs.Deliveries.{last_stands, tip_number}
 use Rattle.node_model.specs.Past.{Past, facts_of}
 use Rattle.node_model.specs.Keeping.{cert_in, cert_of_last, place_of}
-use Rattle.world_safety.proofs.Fits.{CertFits, FactFits, ProofFits}
+use Rattle.world_safety.specs.Fits.{CertFits, FactFits, ProofFits}
+use Rattle.world_safety.specs.Steps.{IsBounded, NodeStands}
 use Rattle.world_safety.proofs.Fitting.{PlaceFits, all_stands}
-use Rattle.world_safety.proofs.Nodes.{NodeStands, first_view_of}
+use Rattle.world_safety.proofs.Nodes.{first_view_of}
 use Rattle.world_safety.proofs.Own.{height_own, last_own, tip_own}
-
--- a chain's setup where no more members lie than the bound allows, and whose configuration has a spelling
-pub record IsBounded (su : Setup) : Type 0 where
-  pub genesis : IsGenesis su
-  pub few : faulty su.byzantine su.config ≤ bound_of su.config
-  pub number : IsNumber su.config.number
-  pub members : HasIdsSpelling su.config.members
 
 pub genesis_first : (su : Setup) → IsBounded su → su.genesis.header.number ≡ 0
 unfolding genesis_block

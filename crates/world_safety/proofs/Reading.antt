@@ -36,9 +36,9 @@ use Rattle.world_model.specs.Turns.{ordinary}
 use Rattle.world_model.specs.Worlds.{Entry, keys_of, letter_from}
 use Rattle.world_safety.specs.Resting.{has_ground}
 use Rattle.world_safety.specs.Safe.{IsAmong, IsNoRaftMessage, IsReadable, RestsIn}
+use Rattle.world_safety.specs.Steps.{IsBrought, IsGoodEvent, IsGoodPost, SignsFit}
 use Rattle.world_safety.proofs.Delivering.{some_same}
-use Rattle.world_safety.proofs.Makings.{IsGoodPost, SignsFit}
-use Rattle.world_safety.proofs.Nodes.{IsBrought, IsGoodEvent, rests_over}
+use Rattle.world_safety.proofs.Nodes.{rests_over}
 
 -- ENTRIES
 

@@ -20,9 +20,10 @@ use Rattle.node_model.specs.Keeping.{is_prepared_at, place_of, view_of}
 use Rattle.node_model.specs.Past.{Past, Did, Opened, accepted_block, facts_of}
 use Rattle.node_model.specs.Restarts.{Found, found_of}
 use Rattle.world_safety.specs.Resting.{own}
+use Rattle.world_safety.specs.Steps.{IsFound, NodeStands}
 use Rattle.world_safety.proofs.Delivering.{some_same}
-use Rattle.world_safety.proofs.Fits.{ActFits}
-use Rattle.world_safety.proofs.Nodes.{IsFound, NodeStands, did_accept, did_deliver, did_prepare}
+use Rattle.world_safety.specs.Fits.{ActFits}
+use Rattle.world_safety.proofs.Nodes.{did_accept, did_deliver, did_prepare}
 
 -- WHAT A NODE PREPARED is what it accepted there
 

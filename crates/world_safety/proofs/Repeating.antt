@@ -19,14 +19,14 @@ use Rattle.node_model.specs.Past.{Came}
 use Rattle.node_model.specs.Restarts.{Found, current, found_of, is_current, past_returns, repeat_round, repeated_votes, repeats_commit, repeats_if, repeats_on, repeats_votes, step}
 use Rattle.node_model.specs.Steps.{Event, FromMember, Keys, Post, Tick, begins, commit_message, own_rule, prepare_message, preprepare_message, to_all}
 use Rattle.world_safety.specs.Safe.{IsPreparedStatement}
+use Rattle.world_safety.specs.Steps.{ArePrepared, IsBounded, IsFound, IsGoodEvent, IsGoodMessage, IsGoodPost, NodeStands, SignsFit}
 use Rattle.world_safety.proofs.Delivering.{some_same}
-use Rattle.world_safety.proofs.Fits.{FactFits, FitsAt}
+use Rattle.world_safety.specs.Fits.{FactFits, FitsAt}
 use Rattle.world_safety.proofs.Fitting.{view_fits}
 use Rattle.world_safety.proofs.Fronts.{fronts_again, fronts_first}
 use Rattle.world_safety.proofs.Lists.{all_append, all_flat, all_map}
-use Rattle.world_safety.proofs.Makings.{ArePrepared, IsGoodMessage, IsGoodPost, MakingStands, SignsFit, beginning, fits_in, own_rule_stands, place_in, place_members, rounds_stand, sent_all, view_in}
-use Rattle.world_safety.proofs.Nodes.{IsFound, IsGoodEvent, NodeStands, event_came, signed_commit}
-use Rattle.world_safety.proofs.Placing.{IsBounded}
+use Rattle.world_safety.proofs.Makings.{MakingStands, beginning, fits_in, own_rule_stands, place_in, place_members, rounds_stand, sent_all, view_in}
+use Rattle.world_safety.proofs.Nodes.{event_came, signed_commit}
 use Rattle.world_safety.proofs.Sending.{commit_fits, hash_fits, prepare_fits, preprepare_fits}
 
 -- WHAT WAS FOUND, where the node still stands there

@@ -16,7 +16,7 @@ use Rattle.node_model.specs.Keeping.{PastNode}
 use Rattle.world_model.specs.Worlds.{World}
 use Rattle.world_safety.specs.Safe.{AreBacked, IsAllowedSeal, IsAmong, IsNoRaftMessage, IsNodeOf, IsReadable, IsSafe, IsSafeWorld, RestsIn, ids_of, setup_of}
 use Rattle.world_safety.proofs.Backing.{IsBackedSeal, seal_backed, seals_backed}
-use Rattle.world_safety.proofs.Fits.{FactFits}
+use Rattle.world_safety.specs.Fits.{FactFits}
 use Rattle.world_safety.proofs.Fitting.{all_stands}
 use Rattle.world_safety.proofs.Lists.{all_map}
 use Rattle.world_safety.proofs.Own.{stored_blocks}

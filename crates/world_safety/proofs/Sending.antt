@@ -10,7 +10,7 @@ use Rattle.node_model.specs.declared.letter.VoteMessage.TheVariants as message_o
 use Rattle.node_model.specs.Acts.{View}
 use Rattle.node_model.specs.Leading.{Place}
 use Rattle.node_model.specs.Steps.{commit_message, prepare_message, preprepare_message}
-use Rattle.world_safety.proofs.Fits.{FitsAt, MessageFits}
+use Rattle.world_safety.specs.Fits.{FitsAt, MessageFits}
 use Rattle.world_safety.proofs.Fitting.{PlaceFits, carried_fits, view_fits}
 
 pub hash_fits : (b : Block) → IsDigest (block_hash b)

@@ -19,17 +19,8 @@ use Rattle.node_model.specs.Leading.{Place}
 use Rattle.node_model.specs.Acts.{View, acceptance_due, delivery_due, preparation_due, proposed}
 use Rattle.node_model.specs.Keeping.{is_of_view}
 use Rattle.world_safety.specs.Resting.{has_ground}
-use Rattle.world_safety.proofs.Fits.{MessageFits}
-
--- a letter is of a Byzantine member, or rests on a fact
-abbrev pub rests : Setup → History → Letter → Bool
-rests su h letter = is_in letter.from su.byzantine || has_ground h letter.from (on_wire letter.message)
-
--- a Commit's signature names its sender
-abbrev pub names : ℕ → VoteMessage → Bool
-names from (message_of.PrePrepare m) = true
-names from (message_of.Prepare m) = true
-names from (message_of.Commit m) = m.sig.signer == from
+use Rattle.world_safety.specs.Fits.{MessageFits}
+use Rattle.world_safety.specs.Steps.{names, rests}
 
 -- a kept letter rests on a fact, names its sender, is of this configuration and view, near this height, and has a spelling
 pub record IsKeptWell (su : Setup) (h : History) (e v s : ℕ) (letter : Letter) : Type 0 where

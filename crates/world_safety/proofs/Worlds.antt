@@ -20,12 +20,12 @@ use Rattle.node_model.specs.Keeping.{PastNode}
 use Rattle.world_model.specs.Worlds.{Entry, Node, Outcome, World, entry, seals_of, stored_in, with_node}
 use Rattle.world_safety.specs.Certified.{IsCertifiedFact}
 use Rattle.world_safety.specs.Safe.{IsAllowedSeal, IsPreparedStatement, ids_of, setup_of, stored}
+use Rattle.world_safety.specs.Steps.{IsBounded, NodeStands}
 use Rattle.world_safety.proofs.Lists.{all_append, all_map, all_mapped, all_reverse, all_within}
-use Rattle.world_safety.proofs.Fits.{FactFits}
+use Rattle.world_safety.specs.Fits.{FactFits}
 use Rattle.world_safety.proofs.Own.{own_others}
-use Rattle.world_safety.proofs.Placing.{IsBounded}
 use Rattle.world_safety.proofs.Backing.{seal_over}
-use Rattle.world_safety.proofs.Nodes.{NodeStands, other_did}
+use Rattle.world_safety.proofs.Nodes.{other_did}
 use Rattle.world_safety.proofs.Reading.{EntryIn}
 use Rattle.world_safety.proofs.Sealing.{IsSealedNode, facts_certified, node_sealed}
 
