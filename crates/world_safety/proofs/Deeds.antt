@@ -11,8 +11,8 @@ use Rattle.node_model.specs.Restarts.{past_returns, step}
 use Rattle.node_model.specs.Steps.{Event, Keys, Making}
 use Rattle.node_model.proofs.FollowLemmas.{AllFollow, Goings, Stepped, step_follows}
 use Rattle.world_safety.specs.Fits.{ActFits}
-use Rattle.world_safety.specs.Steps.{acts_of}
 use Rattle.world_safety.proofs.Lists.{all_parts, all_reverse, all_unmapped}
+use Rattle.world_safety.proofs.Nodes.{acts_of}
 use Rattle.world_safety.proofs.Reopening.{DeedFits}
 
 abbrev act_of : Deed → Fact × Option Block

@@ -30,9 +30,10 @@ use Rattle.world_safety.proofs.Fronts.{fronts_made}
 use Rattle.world_safety.proofs.Ids.{member_has}
 use Rattle.world_safety.proofs.Lists.{all_append, all_map, all_mapped, all_parts, all_reverse, all_taken, all_unmapped}
 use Rattle.world_safety.proofs.Makings.{MakingStands, told}
+use Rattle.world_safety.proofs.Nodes.{acts_fit, reopened}
 use Rattle.world_safety.proofs.Own.{stored_more}
 use Rattle.world_safety.proofs.Reading.{EntryIn, entry_over, posted_in, seals_fit}
-use Rattle.world_safety.proofs.Reopening.{DeedFits, did_deeds, reopened}
+use Rattle.world_safety.proofs.Reopening.{DeedFits, did_deeds}
 use Rattle.world_safety.proofs.Repeating.{step_stands}
 use Rattle.world_safety.proofs.Sealing.{AreCertified, IsSealedMaking, step_sealed}
 use Rattle.world_safety.proofs.Worlds.{GoodWorld, NodeIn, correct_is, goes_on_good, later_good}
@@ -114,7 +115,7 @@ stopped_keeps su w node deeds signed good is kept =
         setup = is.setup;
         id = is.id;
         correct = is.correct;
-        stands = reopened su g i (past_did deeds node.state.past) kept.run did;
+        stands = reopened su g i (past_did deeds node.state.past) did;
         pool = All-nil HasRequestSpelling;
         stored = ap (λ (entries : List (Block × Proof)). entries ++ flat_map stored_in facts) is.stored ∙ sym (stored_more su i facts h (all_reverse (λ f. (actor f == i) ≡ true) facts kept.mine));
         sealed = record { config = is.sealed.config; letters = tt };
@@ -163,7 +164,7 @@ cut_keeps su w node event kept count good is brought =
       run = subst (λ (fs : List Fact). IsRun su (reverse fs ++ h)) same run;
       fit = subst (λ (fs : List Fact). AllByRecursion FactFits (reverse fs ++ h)) same fit;
       mine = subst (AllByRecursion (λ f. (actor f == i) ≡ true)) same mine;
-      fits = all_taken DeedFits kept deeds (deeds_fit node.state m deeds are st.node.acts);
+      fits = all_taken DeedFits kept deeds (deeds_fit node.state m deeds are (acts_fit m.state.setup (told h m) m.state.id m.state.past st.node.entries));
       prepared = subst (λ (fs : List Fact). ArePrepared h i fs made) same signed;
       certified = subst (λ (fs : List Fact). AreCertified su.config (keys_of w.seals i) fs made) same certified;
     })

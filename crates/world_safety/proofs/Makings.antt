@@ -42,7 +42,7 @@ use Rattle.world_safety.specs.Safe.{IsPreparedStatement}
 use Rattle.world_safety.proofs.Backing.{statement_more}
 use Rattle.world_safety.proofs.Placing.{genesis_first, place_fits}
 use Rattle.world_safety.proofs.Sending.{commit_fits, hash_fits, prepare_fits, preprepare_fits}
-use Rattle.world_safety.proofs.Nodes.{did_accept, did_deliver, did_prepare, ground_more, signed_commit, stands, stands_last}
+use Rattle.world_safety.proofs.Nodes.{accepted_is, did_accept, did_deliver, did_prepare, ground_more, signed_commit, stands, stands_last}
 
 -- a node that isn't Byzantine, where no more members are than the bound allows
 pub node_bounded : (su : Setup) (h : History) (i : ℕ) → IsBounded su → is_in i su.byzantine ≡ false → Bounded su h i
@@ -239,7 +239,7 @@ module _ (su : Setup) (i : ℕ) (h : History) (bounded : IsBounded su) (correct 
       let n = m.state in
       let due = due_is (place_in n) (view_in n) d is in
       let e = (config_of n.setup n.id (facts_of n.past)).number in
-      let fits = st.node.fits e (view n.id e (facts_of n.past)) (height n.id (facts_of n.past)) due.block due.accepted in
+      let fits = (accepted_is n.setup (told h m) n.id n.past st.node e (view n.id e (facts_of n.past)) (height n.id (facts_of n.past)) due.block due.accepted).fits in
       (fits.number, subst IsDigest due.digest (hash_fits due.block))
 
   prepare_round_stands : (m : Making PastNode) → MakingStands su i h m → (keys : Keys) → SignsFit keys → (o : Option (List ℕ)) → preparation_due (place_in m.state) (view_in m.state) ≡ o
@@ -270,7 +270,7 @@ module _ (su : Setup) (i : ℕ) (h : History) (bounded : IsBounded su) (correct 
       let s = height n.id (facts_of n.past) in
       let both = delivery_is place (view_in n) b cert is in
       let at : b.header.number ≡ s = both.1 ∙ place_height n in
-      let fits : FitsAt s b = st.node.fits e (view n.id e (facts_of n.past)) s b both.0 in
+      let fits : FitsAt s b = (accepted_is n.setup (told h m) n.id n.past st.node e (view n.id e (facts_of n.past)) s b both.0).fits in
       let first = (fits_in m st).view in
       record {
         block = subst (λ s. FitsAt s b) (sym at) fits;

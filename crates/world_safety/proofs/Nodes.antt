@@ -3,7 +3,7 @@ use Rattle.std.proofs.Common.{◌≡◌, ℕ, Bool, true, false, ◌||◌, ◌&&
 use Rattle.std.specs.Prelude.{◌==◌, not, filter}
 use Rattle.std.specs.List.{All, AllByRecursion, list_any}
 use Rattle.std.specs.Str.{bytes_eq}
-use Rattle.std.proofs.lemmas.Bool.{or_cases, or_left, or_right, and_parts, and_from, eqb-true, eq-eqb}
+use Rattle.std.proofs.lemmas.Bool.{or_cases, or_left, or_parts, or_right, and_parts, and_from, eqb-true, eq-eqb}
 use Rattle.ord_types.specs.Hashes.{block_hash}
 use Rattle.ord_types.specs.Members.{is_in, is_raft}
 use Rattle.ord_types.specs.Grammar.{HasRequestSpelling}
@@ -11,7 +11,7 @@ use Rattle.ord_types.specs.declared.values.Proof.{Proof}
 use Rattle.safety_model.specs.Blocks.{Block}
 use Rattle.safety_model.specs.Facts.{History, has, is_accepted, is_accepted_at, is_prepared}
 use Rattle.safety_model.specs.declared.fact.Fact.{Fact}
-use Rattle.safety_model.specs.declared.fact.Fact.TheVariants.{Accepted, Prepared, Delivered}
+use Rattle.safety_model.specs.declared.fact.Fact.TheVariants.{Accepted, Prepared, Left, Reported, Entered, Delivered}
 use Rattle.safety_model.specs.State.{Setup, config_of, height, is_inside, left, tip, view}
 use Rattle.safety_model.specs.Rules.{IsRun, actor}
 use Rattle.safety_model.proofs.FactTests.{bytes_eq_refl}
@@ -26,15 +26,29 @@ use Rattle.node_model.specs.declared.letter.VoteMessage.{VoteMessage}
 use Rattle.node_model.specs.Letters.{Commit, config_in, letter_in, on_wire, same_slot, view_in}
 use Rattle.node_model.specs.Answers.{is_near, is_signed}
 use Rattle.node_model.specs.Steps.{Event, Tick, FromMember}
-use Rattle.node_model.specs.Past.{Past, Opened, Came, Did, Signed, accepted_block, facts_of}
+use Rattle.node_model.specs.Past.{Entry, Past, Opened, Came, Did, Signed, accepted_block, facts_of}
 use Rattle.node_model.specs.Restarts.{Found, found_of}
 use Rattle.node_model.specs.Keeping.{firsts, is_of_view, is_timely, kept, letter_of, of_another, own_commit, place_of, timely, view_of}
 use Rattle.world_safety.specs.Resting.{has_ground, own}
-use Rattle.world_safety.specs.Steps.{IsBrought, IsFound, IsGoodEvent, IsGoodLetter, NodeStands, acts_of, names, rests}
-use Rattle.world_safety.proofs.Standing.{IsKeptWell, Stands, StandsLast}
+use Rattle.world_safety.specs.Steps.{IsBrought, IsGoodEntry, IsGoodEvent, NodeStands, moves, rests}
+use Rattle.world_safety.proofs.Standing.{IsKeptWell, Stands, StandsLast, names}
 use Rattle.world_safety.specs.Fits.{ActFits, FitsAt, MessageFits}
 use Rattle.world_safety.proofs.Lists.{all_append, all_filter, all_map, all_reverse}
 use Rattle.world_safety.proofs.Own.{config_own, height_own, left_own, own_more, own_other, tip_own, view_own}
+
+-- a letter rests on a fact, names its sender, and has a spelling
+pub record IsGoodLetter (su : Setup) (h : History) (letter : Letter) : Type 0 where
+  pub rests : rests su h letter ≡ true
+  pub named : names letter.from letter.message ≡ true
+  pub fits : MessageFits letter.message
+
+-- what a node did, the newest first, each fact with the block that an acceptance names
+abbrev pub acts_of : Past → List (Fact × Option Block)
+acts_of [] = []
+acts_of (Opened ∷ past) = acts_of past
+acts_of (Came event accepts ∷ past) = acts_of past
+acts_of (Did f b ∷ past) = (f, b) ∷ acts_of past
+acts_of (Signed m accepts ∷ past) = acts_of past
 
 -- FACTS ARE ONLY ADDED
 
@@ -70,12 +84,19 @@ rests_over byzantine h fs from m is =
       | inr n ↦ or_right _ _ (ground_over h fs from m n)
     ]
 
-letters_more : (su : Setup) (h : History) (f : Fact) (letters : List Letter) → AllByRecursion (IsGoodLetter su h) letters → AllByRecursion (IsGoodLetter su (f ∷ h)) letters
-letters_more su h f letters all =
-    all_map (IsGoodLetter su h) (IsGoodLetter su (f ∷ h)) (λ letter good. record { rests = rests_over su.byzantine h (f ∷ []) letter.from (on_wire letter.message) good.rests; named = good.named; fits = good.fits }) letters all
+event_more : (su : Setup) (h : History) (f : Fact) (event : Event) → IsGoodEvent su h event → IsGoodEvent su (f ∷ h) event
+event_more su h f (Tick offer) good = good
+event_more su h f (FromMember from bytes) good =
+    λ letter at. record { rests = rests_over su.byzantine h (f ∷ []) letter.from (on_wire letter.message) (good letter at).rests; fits = (good letter at).fits }
 
-found_more : (h : History) (g : Fact) (i : ℕ) (f : Found) → IsFound h i f → IsFound (g ∷ h) i f
-found_more h g i f is = record { accepted = or_right _ _ is.accepted; prepared = λ p. or_right _ _ (is.prepared p); fits = is.fits }
+entry_more : (su : Setup) (h : History) (i : ℕ) (f : Fact) (entry : Entry) → IsGoodEntry su h i entry → IsGoodEntry su (f ∷ h) i entry
+entry_more su h i f Opened good = tt
+entry_more su h i f (Came event accepts) good = event_more su h f event good
+entry_more su h i f (Did g b) good = good
+entry_more su h i f (Signed m accepts) good = (or_right _ _ good.0, good.1)
+
+entries_more : (su : Setup) (h : History) (i : ℕ) (f : Fact) (past : Past) → AllByRecursion (IsGoodEntry su h i) past → AllByRecursion (IsGoodEntry su (f ∷ h) i) past
+entries_more su h i f past all = all_map (IsGoodEntry su h i) (IsGoodEntry su (f ∷ h) i) (entry_more su h i f) past all
 
 -- a fact of another node is no acceptance of this one
 other_accepts : (i e v s : ℕ) (f : Fact) → (actor f == i) ≡ false → is_accepted_at i e v s f ≡ false
@@ -90,90 +111,34 @@ or_false false true x y = absurd (cc)
 -- another node does something
 pub other_did : (su : Setup) (h : History) (i : ℕ) (past : Past) (f : Fact) → (actor f == i) ≡ false → NodeStands su h i past → NodeStands su (f ∷ h) i past
 other_did su h i past f other st =
-    record {
-      own = own_other i f h other ∙ st.own;
-      still = or_false _ _ (moves_actor i f other) st.still;
-      timely = letters_more su h f (timely su i past) st.timely;
-      accepted = λ e v s b is. or_right _ _ (st.accepted e v s b is);
-      fresh = λ e v s is. or_false _ _ (other_accepts i e v s f other) (st.fresh e v s is);
-      fits = st.fits;
-      acts = st.acts;
-      found = λ g is. found_more h f i g (st.found g is);
-    }
+    record { own = own_other i f h other ∙ st.own; still = or_false _ _ (moves_actor i f other) st.still; entries = entries_more su h i f past st.entries }
 
 -- IT ACTS
 
-accepted_here : (i e v s e' v' s' : ℕ) (b c : Block) (past : Past) (h : History)
-    → (accepted_block i e' v' s' past ≡ Some c → has (is_accepted i e' v' s' (block_hash c)) h ≡ true)
-    → (t : Bool) → is_accepted_at i e' v' s' (Accepted i e v s (block_hash b)) ≡ t → cond t (Some b) (accepted_block i e' v' s' past) ≡ Some c
-    → has (is_accepted i e' v' s' (block_hash c)) (Accepted i e v s (block_hash b) ∷ h) ≡ true
-accepted_here i e v s e' v' s' b c past h rest true is at =
-    let same : b ≡ c = cc in
-    or_left _ _ (and_from _ _ is (subst (λ c. bytes_eq (block_hash b) (block_hash c) ≡ true) same (bytes_eq_refl (block_hash b))))
-accepted_here i e v s e' v' s' b c past h rest false is at = or_right _ _ (rest at)
-
-fresh_here : (i e v s e' v' s' : ℕ) (b : Block) (past : Past) (h : History)
-    → (accepted_block i e' v' s' past ≡ None → has (is_accepted_at i e' v' s') h ≡ false)
-    → (t : Bool) → is_accepted_at i e' v' s' (Accepted i e v s (block_hash b)) ≡ t → cond t (Some b) (accepted_block i e' v' s' past) ≡ None
-    → has (is_accepted_at i e' v' s') (Accepted i e v s (block_hash b) ∷ h) ≡ false
-fresh_here i e v s e' v' s' b past h rest true is at = absurd (cc)
-fresh_here i e v s e' v' s' b past h rest false is at = or_false _ _ is (rest at)
-
-fits_here : (i e v s e' v' s' : ℕ) (b c : Block) (past : Past) → FitsAt s b → (accepted_block i e' v' s' past ≡ Some c → FitsAt s' c)
-    → (t : Bool) → is_accepted_at i e' v' s' (Accepted i e v s (block_hash b)) ≡ t → cond t (Some b) (accepted_block i e' v' s' past) ≡ Some c → FitsAt s' c
-fits_here i e v s e' v' s' b c past fits rest true is at =
-    let same : b ≡ c = cc in
-    let number : s ≡ s' = eqb-true s s' (and_parts ((i == i) && (e == e') && (v == v')) (s == s') is).1 in
-    subst (λ s. FitsAt s c) number (subst (FitsAt s) same fits)
-fits_here i e v s e' v' s' b c past fits rest false is at = rest at
+-- it does something by which it neither leaves nor enters a view
+pub did_act : (su : Setup) (h : History) (i : ℕ) (past : Past) (f : Fact) (b : Option Block) → (actor f == i) ≡ true → moves i f ≡ false → ActFits f b → NodeStands su h i past
+    → NodeStands su (f ∷ h) i (Did f b ∷ past)
+did_act su h i past f b mine stays fits st =
+    record {
+      own = own_more i f h mine ∙ ap (λ (g : History). f ∷ g) st.own;
+      still = or_false _ _ stays st.still;
+      entries = (fits, entries_more su h i f past st.entries);
+    }
 
 -- it accepts a block
 pub did_accept : (su : Setup) (h : History) (i : ℕ) (past : Past) (e v s : ℕ) (b : Block) → FitsAt s b → NodeStands su h i past
     → NodeStands su (Accepted i e v s (block_hash b) ∷ h) i (Did (Accepted i e v s (block_hash b)) (Some b) ∷ past)
-did_accept su h i past e v s b fit st =
-    let f = Accepted i e v s (block_hash b) in
-    record {
-      own = own_more i f h (eq-eqb i i refl) ∙ ap (λ (g : History). f ∷ g) st.own;
-      still = st.still;
-      timely = letters_more su h f (timely su i past) st.timely;
-      accepted = λ e' v' s' c is. accepted_here i e v s e' v' s' b c past h (st.accepted e' v' s' c) (is_accepted_at i e' v' s' f) refl is;
-      fresh = λ e' v' s' is. fresh_here i e v s e' v' s' b past h (st.fresh e' v' s') (is_accepted_at i e' v' s' f) refl is;
-      fits = λ e' v' s' c is. fits_here i e v s e' v' s' b c past fit (st.fits e' v' s' c) (is_accepted_at i e' v' s' f) refl is;
-      acts = (fit, st.acts);
-      found = λ g is. found_more h f i g (st.found g is);
-    }
+did_accept su h i past e v s b fit st = did_act su h i past (Accepted i e v s (block_hash b)) (Some b) (eq-eqb i i refl) refl (refl, fit) st
 
 -- it prepares a digest
 pub did_prepare : (su : Setup) (h : History) (i : ℕ) (past : Past) (e v s : ℕ) (d : List ℕ) → NodeStands su h i past
     → NodeStands su (Prepared i e v s d ∷ h) i (Did (Prepared i e v s d) None ∷ past)
-did_prepare su h i past e v s d st =
-    let f = Prepared i e v s d in
-    record {
-      own = own_more i f h (eq-eqb i i refl) ∙ ap (λ (g : History). f ∷ g) st.own;
-      still = st.still;
-      timely = letters_more su h f (timely su i past) st.timely;
-      accepted = λ e' v' s' c is. st.accepted e' v' s' c is;
-      fresh = λ e' v' s' is. st.fresh e' v' s' is;
-      fits = λ e' v' s' c is. st.fits e' v' s' c is;
-      acts = (tt, st.acts);
-      found = λ g is. found_more h f i g (st.found g is);
-    }
+did_prepare su h i past e v s d st = did_act su h i past (Prepared i e v s d) None (eq-eqb i i refl) refl tt st
 
 -- it delivers a block
 pub did_deliver : (su : Setup) (h : History) (i : ℕ) (past : Past) (b : Block) (proof : Proof) → NodeStands su h i past
     → NodeStands su (Delivered i b proof ∷ h) i (Did (Delivered i b proof) None ∷ past)
-did_deliver su h i past b proof st =
-    let f = Delivered i b proof in
-    record {
-      own = own_more i f h (eq-eqb i i refl) ∙ ap (λ (g : History). f ∷ g) st.own;
-      still = st.still;
-      timely = letters_more su h f (timely su i past) st.timely;
-      accepted = λ e' v' s' c is. st.accepted e' v' s' c is;
-      fresh = λ e' v' s' is. st.fresh e' v' s' is;
-      fits = λ e' v' s' c is. st.fits e' v' s' c is;
-      acts = (tt, st.acts);
-      found = λ g is. found_more h f i g (st.found g is);
-    }
+did_deliver su h i past b proof st = did_act su h i past (Delivered i b proof) None (eq-eqb i i refl) refl tt st
 
 -- IT KEEPS LETTERS
 
@@ -199,18 +164,7 @@ timely_good su h i g accepts letters all =
 -- it signs a Commit of what it prepared
 pub signed_commit : (su : Setup) (h : History) (i : ℕ) (past : Past) (m : Commit) (accepts : Accepts) → NodeStands su h i past
     → has (is_prepared i m.config m.view m.number m.digest) h ≡ true → MessageFits (message_of.Commit m) → NodeStands su h i (Signed m accepts ∷ past)
-signed_commit su h i past m accepts st is fits =
-    record {
-      own = st.own;
-      still = st.still;
-      timely = all_append (IsGoodLetter su h) (filter (is_timely su i (facts_of past) accepts) (own_commit i m ∷ [])) (timely su i past)
-          (timely_good su h i (facts_of past) accepts (own_commit i m ∷ []) (record { rests = or_right _ _ is; fits = fits }, tt)) st.timely;
-      accepted = st.accepted;
-      fresh = st.fresh;
-      fits = st.fits;
-      acts = st.acts;
-      found = st.found;
-    }
+signed_commit su h i past m accepts st is fits = record { own = st.own; still = st.still; entries = ((is, fits), st.entries) }
 
 letter_brought : (su : Setup) (h : History) (i : ℕ) (event : Event) → IsGoodEvent su h event → AllByRecursion (IsBrought su h) (letter_of i event)
 letter_brought su h i (Tick offer) good = tt
@@ -224,45 +178,133 @@ letter_brought su h i (FromMember from bytes) good = go (letter_in from bytes) r
     go None is = tt
     go (Some letter) is = unless (letter.from == i) letter (good letter is)
 
--- what was found stays found until a tick
-found_came : (su : Setup) (h : History) (i : ℕ) (past : Past) (event : Event) (accepts : Accepts) → ((f : Found) → found_of su i past ≡ Some f → IsFound h i f)
-    → (f : Found) → found_of su i (Came event accepts ∷ past) ≡ Some f → IsFound h i f
-found_came su h i past (Tick offer) accepts found f is = absurd (cc)
-found_came su h i past (FromMember from bytes) accepts found f is = found f is
-
 -- an event comes
 pub event_came : (su : Setup) (h : History) (i : ℕ) (past : Past) (event : Event) (accepts : Accepts) → NodeStands su h i past → IsGoodEvent su h event
     → NodeStands su h i (Came event accepts ∷ past)
-event_came su h i past event accepts st good =
-    record {
-      own = st.own;
-      still = st.still;
-      timely = all_append (IsGoodLetter su h) (filter (is_timely su i (facts_of past) accepts) (letter_of i event)) (timely su i past)
-          (timely_good su h i (facts_of past) accepts (letter_of i event) (letter_brought su h i event good)) st.timely;
-      accepted = st.accepted;
-      fresh = st.fresh;
-      fits = st.fits;
-      acts = st.acts;
-      found = λ f is. found_came su h i past event accepts st.found f is;
-    }
+event_came su h i past event accepts st good = record { own = st.own; still = st.still; entries = (good, st.entries) }
+
+-- it is opened again: it keeps no letter
+pub reopened : (su : Setup) (h : History) (i : ℕ) (past : Past) → NodeStands su h i past → NodeStands su h i (Opened ∷ past)
+reopened su h i past st = record { own = st.own; still = st.still; entries = (tt, st.entries) }
 
 -- it is opened on the first block
-nothing_found : (su : Setup) (i : ℕ) → found_of su i (Opened ∷ []) ≡ None
-unfolding view_of
-nothing_found su i = refl
-
 pub opened : (su : Setup) (i : ℕ) → NodeStands su [] i (Opened ∷ [])
-opened su i =
+opened su i = record { own = refl; still = refl; entries = (tt, tt) }
+
+-- SO ITS LETTERS ARE GOOD
+
+letters_good : (su : Setup) (h : History) (i : ℕ) (past : Past) → AllByRecursion (IsGoodEntry su h i) past → AllByRecursion (IsGoodLetter su h) (timely su i past)
+letters_good su h i [] all = tt
+letters_good su h i (Opened ∷ past) all = tt
+letters_good su h i (Came event accepts ∷ past) all =
+    all_append (IsGoodLetter su h) (filter (is_timely su i (facts_of past) accepts) (letter_of i event)) (timely su i past)
+    (timely_good su h i (facts_of past) accepts (letter_of i event) (letter_brought su h i event all.0)) (letters_good su h i past all.1)
+letters_good su h i (Did f b ∷ past) all = letters_good su h i past all.1
+letters_good su h i (Signed m accepts ∷ past) all =
+    all_append (IsGoodLetter su h) (filter (is_timely su i (facts_of past) accepts) (own_commit i m ∷ [])) (timely su i past)
+    (timely_good su h i (facts_of past) accepts (own_commit i m ∷ []) (record { rests = or_right _ _ all.0.0; fits = all.0.1 }, tt)) (letters_good su h i past all.1)
+
+-- ITS ACTS FIT
+
+pub acts_fit : (su : Setup) (h : History) (i : ℕ) (past : Past) → AllByRecursion (IsGoodEntry su h i) past → AllByRecursion (λ act. ActFits act.0 act.1) (acts_of past)
+acts_fit su h i [] all = tt
+acts_fit su h i (Opened ∷ past) all = acts_fit su h i past all.1
+acts_fit su h i (Came event accepts ∷ past) all = acts_fit su h i past all.1
+acts_fit su h i (Did f b ∷ past) all = (all.0, acts_fit su h i past all.1)
+acts_fit su h i (Signed m accepts ∷ past) all = acts_fit su h i past all.1
+
+-- THE BLOCK THAT IT ACCEPTED has the digest of its acceptance
+
+-- an acceptance by these facts, of a block that fits
+pub record IsAccepted (h : History) (i e v s : ℕ) (b : Block) : Type 0 where
+  pub accepted : has (is_accepted i e v s (block_hash b)) h ≡ true
+  pub fits : FitsAt s b
+
+pub accepted_more : (h : History) (f : Fact) (i e v s : ℕ) (b : Block) → IsAccepted h i e v s b → IsAccepted (f ∷ h) i e v s b
+accepted_more h f i e v s b is = record { accepted = or_right _ _ is.accepted; fits = is.fits }
+
+accepted_here : (h : History) (i e v s : ℕ) (f : Fact) (o : Option Block) (b : Block) → ActFits f o → is_accepted_at i e v s f ≡ true → o ≡ Some b → IsAccepted (f ∷ h) i e v s b
+accepted_here h i e v s (Accepted j e' v' s' d) (Some c) b fits is at =
+    let same : c ≡ b = cc in
+    let digest : d ≡ block_hash b = fits.0 ∙ ap block_hash same in
+    let number : s' ≡ s = eqb-true s' s (and_parts ((j == i) && (e' == e) && (v' == v)) (s' == s) is).1 in
     record {
-      own = refl;
-      still = refl;
-      timely = tt;
-      accepted = λ e v s b is. absurd (cc);
-      fresh = λ e v s is. refl;
-      fits = λ e v s b is. absurd (cc);
-      acts = tt;
-      found = λ f is. absurd (let none = nothing_found su i in cc);
+      accepted = or_left _ _ (and_from _ _ is (subst (λ d. bytes_eq d (block_hash b) ≡ true) (sym digest) (bytes_eq_refl (block_hash b))));
+      fits = subst (λ s. FitsAt s b) number (subst (FitsAt s') same fits.1);
     }
+accepted_here h i e v s (Accepted j e' v' s' d) None b fits is at = absurd (cc)
+accepted_here h i e v s (Prepared j e' v' s' d) o b fits is at = absurd (cc)
+accepted_here h i e v s (Left j e' v') o b fits is at = absurd (cc)
+accepted_here h i e v s (Reported j e' v' r) o b fits is at = absurd (cc)
+accepted_here h i e v s (Entered j e' v' x choice) o b fits is at = absurd (cc)
+accepted_here h i e v s (Delivered j c proof) o b fits is at = absurd (cc)
+
+pub accepted_in : (su : Setup) (h : History) (i e v s : ℕ) (b : Block) (past : Past) → AllByRecursion (IsGoodEntry su h i) past → accepted_block i e v s past ≡ Some b → IsAccepted (facts_of past) i e v s b
+accepted_in su h i e v s b [] all at = absurd (cc)
+accepted_in su h i e v s b (Opened ∷ past) all at = accepted_in su h i e v s b past all.1 at
+accepted_in su h i e v s b (Came event accepts ∷ past) all at = accepted_in su h i e v s b past all.1 at
+accepted_in su h i e v s b (Did f o ∷ past) all at = go (is_accepted_at i e v s f) refl at (accepted_in su h i e v s b past all.1)
+  where
+    go : (t : Bool) → is_accepted_at i e v s f ≡ t → cond t o (accepted_block i e v s past) ≡ Some b → (accepted_block i e v s past ≡ Some b → IsAccepted (facts_of past) i e v s b)
+        → IsAccepted (f ∷ facts_of past) i e v s b
+    go true is at rest = accepted_here (facts_of past) i e v s f o b all.0 is at
+    go false is at rest = accepted_more (facts_of past) f i e v s b (rest at)
+accepted_in su h i e v s b (Signed m accepts ∷ past) all at = accepted_in su h i e v s b past all.1 at
+
+-- where it names none, it accepted nothing
+accepts_some : (i e v s : ℕ) (f : Fact) → ActFits f None → is_accepted_at i e v s f ≡ false
+accepts_some i e v s (Accepted j e' v' s' d) fits = absurd fits
+accepts_some i e v s (Prepared j e' v' s' d) fits = refl
+accepts_some i e v s (Left j e' v') fits = refl
+accepts_some i e v s (Reported j e' v' r) fits = refl
+accepts_some i e v s (Entered j e' v' x choice) fits = refl
+accepts_some i e v s (Delivered j c proof) fits = refl
+
+fresh_in : (su : Setup) (h : History) (i e v s : ℕ) (past : Past) → AllByRecursion (IsGoodEntry su h i) past → accepted_block i e v s past ≡ None → has (is_accepted_at i e v s) (facts_of past) ≡ false
+fresh_in su h i e v s [] all at = refl
+fresh_in su h i e v s (Opened ∷ past) all at = fresh_in su h i e v s past all.1 at
+fresh_in su h i e v s (Came event accepts ∷ past) all at = fresh_in su h i e v s past all.1 at
+fresh_in su h i e v s (Did f o ∷ past) all at = go (is_accepted_at i e v s f) refl at (fresh_in su h i e v s past all.1)
+  where
+    go : (t : Bool) → is_accepted_at i e v s f ≡ t → cond t o (accepted_block i e v s past) ≡ None → (accepted_block i e v s past ≡ None → has (is_accepted_at i e v s) (facts_of past) ≡ false)
+        → has (is_accepted_at i e v s) (f ∷ facts_of past) ≡ false
+    go true is at rest = let no = accepts_some i e v s f (subst (ActFits f) at all.0) in absurd (cc)
+    go false is at rest = or_false _ _ is (rest at)
+fresh_in su h i e v s (Signed m accepts ∷ past) all at = fresh_in su h i e v s past all.1 at
+
+-- its own facts are among all, and nobody else's are acceptances of it
+
+pub has_own : (i : ℕ) (kind : Fact → Bool) (h : History) → has kind (own i h) ≡ true → has kind h ≡ true
+has_own i kind [] is = is
+has_own i kind (f ∷ h) is = go (actor f == i) is (has_own i kind h)
+  where
+    go : (t : Bool) → has kind (cond t (f ∷ own i h) (own i h)) ≡ true → (has kind (own i h) ≡ true → has kind h ≡ true) → has kind (f ∷ h) ≡ true
+    go true at rest = elim (or_cases (kind f) (has kind (own i h)) at) [
+      | inl here ↦ or_left _ _ here
+      | inr there ↦ or_right _ _ (rest there)
+    ]
+    go false at rest = or_right _ _ (rest at)
+
+none_own : (i e v s : ℕ) (h : History) → has (is_accepted_at i e v s) (own i h) ≡ false → has (is_accepted_at i e v s) h ≡ false
+none_own i e v s [] none = refl
+none_own i e v s (f ∷ h) none = go (actor f == i) refl none (none_own i e v s h)
+  where
+    go : (t : Bool) → (actor f == i) ≡ t → has (is_accepted_at i e v s) (cond t (f ∷ own i h) (own i h)) ≡ false
+        → (has (is_accepted_at i e v s) (own i h) ≡ false → has (is_accepted_at i e v s) h ≡ false) → has (is_accepted_at i e v s) (f ∷ h) ≡ false
+    go true is none rest = let p = or_parts (is_accepted_at i e v s f) (has (is_accepted_at i e v s) (own i h)) none in or_false _ _ p.0 (rest p.1)
+    go false is none rest = or_false _ _ (other_accepts i e v s f is) (rest none)
+
+-- a fact of its past stands in the history
+pub in_history : (su : Setup) (h : History) (i : ℕ) (past : Past) → NodeStands su h i past → (kind : Fact → Bool) → has kind (facts_of past) ≡ true → has kind h ≡ true
+in_history su h i past st kind is = has_own i kind h (subst (λ (g : History). has kind g ≡ true) (sym st.own) is)
+
+pub accepted_is : (su : Setup) (h : History) (i : ℕ) (past : Past) → NodeStands su h i past → (e v s : ℕ) (b : Block) → accepted_block i e v s past ≡ Some b → IsAccepted h i e v s b
+accepted_is su h i past st e v s b at =
+    let is = accepted_in su h i e v s b past st.entries at in
+    record { accepted = in_history su h i past st (is_accepted i e v s (block_hash b)) is.accepted; fits = is.fits }
+
+fresh_is : (su : Setup) (h : History) (i : ℕ) (past : Past) → NodeStands su h i past → (e v s : ℕ) → accepted_block i e v s past ≡ None → has (is_accepted_at i e v s) h ≡ false
+fresh_is su h i past st e v s at = none_own i e v s h (subst (λ (g : History). has (is_accepted_at i e v s) g ≡ false) (sym st.own) (fresh_in su h i e v s past st.entries at))
 
 -- SO ITS PLACE AND ITS VIEW ARE THOSE BY THE HISTORY
 
@@ -277,7 +319,7 @@ all_firsts P (m ∷ ms) all = go (list_any (same_slot m) ms) (all_firsts P ms al
 all_kept : (su : Setup) (h : History) (i : ℕ) (past : Past) (e v s : ℕ) → NodeStands su h i past
     → AllByRecursion (IsKeptWell su h e v s) (reverse (filter (is_of_view e v s) (kept su i past)))
 all_kept su h i past e v s st =
-    let good = all_filter (IsGoodLetter su h) (is_of_view e v s) (kept su i past) (all_firsts (IsGoodLetter su h) (timely su i past) st.timely) in
+    let good = all_filter (IsGoodLetter su h) (is_of_view e v s) (kept su i past) (all_firsts (IsGoodLetter su h) (timely su i past) (letters_good su h i past st.entries)) in
     all_reverse (IsKeptWell su h e v s) (filter (is_of_view e v s) (kept su i past))
     (all_map (λ letter. IsGoodLetter su h letter × (is_of_view e v s letter ≡ true)) (IsKeptWell su h e v s)
     (λ letter both. record { rests = both.0.rests; named = both.0.named; of_view = both.1; fits = both.0.fits }) (filter (is_of_view e v s) (kept su i past)) good)
@@ -298,8 +340,8 @@ stands su h i past st =
       height = ap (height i) (sym st.own) ∙ sym (height_own i h);
       view = ap (view i e) (sym st.own) ∙ sym (view_own i e h);
       left = ap (left i e) (sym st.own) ∙ sym (left_own i e h);
-      accepted = λ b is. st.accepted e v s b is;
-      fresh = λ is. st.fresh e v s is;
+      accepted = λ b is. (accepted_is su h i past st e v s b is).accepted;
+      fresh = λ is. fresh_is su h i past st e v s is;
       not_against = λ d. never_against i e v s d h st.still;
       kept = all_kept su h i past e v s st;
     }

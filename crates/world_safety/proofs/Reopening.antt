@@ -17,13 +17,14 @@ use Rattle.safety_model.proofs.Moments.{found, has_found}
 use Rattle.safety_model.proofs.OneView.{accepted_once, accepted_stands, prepared_accepted}
 use Rattle.node_model.specs.Deeds.{Accepts, Deed, Delivers, Prepares, block_of, fact_of, past_did}
 use Rattle.node_model.specs.Keeping.{is_prepared_at, place_of, view_of}
-use Rattle.node_model.specs.Past.{Past, Did, Opened, accepted_block, facts_of}
+use Rattle.node_model.specs.Past.{Past, Came, Did, Opened, Signed, accepted_block, facts_of}
 use Rattle.node_model.specs.Restarts.{Found, found_of}
+use Rattle.node_model.specs.Steps.{FromMember, Tick}
 use Rattle.world_safety.specs.Resting.{own}
-use Rattle.world_safety.specs.Steps.{IsFound, NodeStands}
+use Rattle.world_safety.specs.Steps.{IsGoodEntry, NodeStands}
 use Rattle.world_safety.proofs.Delivering.{some_same}
-use Rattle.world_safety.specs.Fits.{ActFits}
-use Rattle.world_safety.proofs.Nodes.{did_accept, did_deliver, did_prepare}
+use Rattle.world_safety.specs.Fits.{ActFits, FitsAt}
+use Rattle.world_safety.proofs.Nodes.{IsAccepted, accepted_in, did_accept, did_deliver, did_prepare, in_history}
 
 -- WHAT A NODE PREPARED is what it accepted there
 
@@ -53,52 +54,45 @@ prepared_block su h i e v s b run accepted prepared =
     has_found (is_prepared i e v s (block_hash b)) h (Prepared i e v s named.0) stands
     (subst (λ d. is_prepared i e v s d (Prepared i e v s named.0) ≡ true) same (prepared_itself i e v s named.0))
 
--- its own facts are among all
-has_own : (i : ℕ) (kind : Fact → Bool) (h : History) → has kind (own i h) ≡ true → has kind h ≡ true
-has_own i kind [] is = is
-has_own i kind (f ∷ h) is = go (actor f == i) is (has_own i kind h)
-  where
-    go : (t : Bool) → has kind (cond t (f ∷ own i h) (own i h)) ≡ true → (has kind (own i h) ≡ true → has kind h ≡ true) → has kind (f ∷ h) ≡ true
-    go true at rest = elim (or_cases (kind f) (has kind (own i h)) at) [
-      | inl here ↦ or_left _ _ here
-      | inr there ↦ or_right _ _ (rest there)
-    ]
-    go false at rest = or_right _ _ (rest at)
+-- WHAT AN OPENING FOUND
 
--- AN OPENING
+-- it rests on facts of the node, and its block fits
+pub record IsFound (h : History) (i : ℕ) (f : Found) : Type 0 where
+  pub accepted : has (is_accepted i f.config f.view f.height (block_hash f.block)) h ≡ true
+  pub prepared : f.is_prepared ≡ true → has (is_prepared i f.config f.view f.height (block_hash f.block)) h ≡ true
+  pub fits : FitsAt f.height f.block
 
 found_from : (h : History) (i e v s : ℕ) (p : Bool) (o : Option Block) → ((b : Block) → o ≡ Some b → IsFound h i (record { config = e; view = v; height = s; block = b; is_prepared = p }))
     → (f : Found) → option_map (λ (b : Block). record { config = e; view = v; height = s; block = b; is_prepared = p }) o ≡ Some f → IsFound h i f
 found_from h i e v s p None each f is = absurd (cc)
 found_from h i e v s p (Some b) each f is = subst (IsFound h i) (some_same is) (each b refl)
 
-found_opened : (su : Setup) (h : History) (i : ℕ) (past : Past) → IsRun su h → NodeStands su h i past → (f : Found) → found_of su i (Opened ∷ past) ≡ Some f → IsFound h i f
+-- where the facts that stood then, and more, are among all
+found_opened : (su : Setup) (h : History) (i : ℕ) (past : Past) → IsRun su h → AllByRecursion (IsGoodEntry su h i) past → ((kind : Fact → Bool) → has kind (facts_of past) ≡ true → has kind h ≡ true)
+    → (f : Found) → found_of su i (Opened ∷ past) ≡ Some f → IsFound h i f
 unfolding view_of place_of
-found_opened su h i past run st f is =
+found_opened su h i past run all within f is =
     let e = (config_of su i (facts_of past)).number in
     let v = view i e (facts_of past) in
     let s = height i (facts_of past) in
     let p = has (is_prepared_at i e v s) (facts_of past) in
     found_from h i e v s p (accepted_block i e v s past)
-    (λ b at. record {
-      accepted = st.accepted e v s b at;
-      prepared = λ yes. prepared_block su h i e v s b run (st.accepted e v s b at) (has_own i (is_prepared_at i e v s) h (subst (λ (g : History). has (is_prepared_at i e v s) g ≡ true) (sym st.own) yes));
-      fits = st.fits e v s b at;
-    }) f is
+    (λ b at.
+      let block : IsAccepted (facts_of past) i e v s b = accepted_in su h i e v s b past all at in
+      let accepted : has (is_accepted i e v s (block_hash b)) h ≡ true = within (is_accepted i e v s (block_hash b)) block.accepted in
+      record { accepted = accepted; prepared = λ yes. prepared_block su h i e v s b run accepted (within (is_prepared_at i e v s) yes); fits = block.fits }) f is
 
--- it is opened again: it keeps no letter
-pub reopened : (su : Setup) (h : History) (i : ℕ) (past : Past) → IsRun su h → NodeStands su h i past → NodeStands su h i (Opened ∷ past)
-reopened su h i past run st =
-    record {
-      own = st.own;
-      still = st.still;
-      timely = tt;
-      accepted = st.accepted;
-      fresh = st.fresh;
-      fits = st.fits;
-      acts = st.acts;
-      found = found_opened su h i past run st;
-    }
+found_in_past : (su : Setup) (h : History) (i : ℕ) (past : Past) → IsRun su h → AllByRecursion (IsGoodEntry su h i) past → ((kind : Fact → Bool) → has kind (facts_of past) ≡ true → has kind h ≡ true)
+    → (f : Found) → found_of su i past ≡ Some f → IsFound h i f
+found_in_past su h i [] run all within f is = absurd (cc)
+found_in_past su h i (Opened ∷ past) run all within f is = found_opened su h i past run all.1 within f is
+found_in_past su h i (Came (Tick offer) accepts ∷ past) run all within f is = absurd (cc)
+found_in_past su h i (Came (FromMember from bytes) accepts ∷ past) run all within f is = found_in_past su h i past run all.1 within f is
+found_in_past su h i (Did g b ∷ past) run all within f is = found_in_past su h i past run all.1 (λ kind had. within kind (or_right _ _ had)) f is
+found_in_past su h i (Signed m accepts ∷ past) run all within f is = found_in_past su h i past run all.1 within f is
+
+pub found_is : (su : Setup) (h : History) (i : ℕ) (past : Past) → IsRun su h → NodeStands su h i past → (f : Found) → found_of su i past ≡ Some f → IsFound h i f
+found_is su h i past run st f is = found_in_past su h i past run st.entries (in_history su h i past st) f is
 
 -- DEEDS, one after the other
 
@@ -109,7 +103,7 @@ did_deed : (su : Setup) (h : History) (i : ℕ) (past : Past) (deed : Deed) → 
     → NodeStands su (fact_of deed ∷ h) i (Did (fact_of deed) (block_of deed) ∷ past)
 did_deed su h i past (Accepts j e v s b) fits mine st =
     let f = λ (j : ℕ). Accepted j e v s (block_hash b) in
-    subst (λ j. NodeStands su (f j ∷ h) i (Did (f j) (Some b) ∷ past)) (sym (eqb-true j i mine)) (did_accept su h i past e v s b fits st)
+    subst (λ j. NodeStands su (f j ∷ h) i (Did (f j) (Some b) ∷ past)) (sym (eqb-true j i mine)) (did_accept su h i past e v s b fits.1 st)
 did_deed su h i past (Prepares j e v s d) fits mine st =
     subst (λ j. NodeStands su (Prepared j e v s d ∷ h) i (Did (Prepared j e v s d) None ∷ past)) (sym (eqb-true j i mine)) (did_prepare su h i past e v s d st)
 did_deed su h i past (Delivers j b cert) fits mine st =

@@ -19,7 +19,7 @@ use Rattle.node_model.specs.Past.{Came}
 use Rattle.node_model.specs.Restarts.{Found, current, found_of, is_current, past_returns, repeat_round, repeated_votes, repeats_commit, repeats_if, repeats_on, repeats_votes, step}
 use Rattle.node_model.specs.Steps.{Event, FromMember, Keys, Post, Tick, begins, commit_message, own_rule, prepare_message, preprepare_message, to_all}
 use Rattle.world_safety.specs.Safe.{IsPreparedStatement}
-use Rattle.world_safety.specs.Steps.{ArePrepared, IsBounded, IsFound, IsGoodEvent, IsGoodMessage, IsGoodPost, NodeStands, SignsFit}
+use Rattle.world_safety.specs.Steps.{ArePrepared, IsBounded, IsGoodEvent, IsGoodMessage, IsGoodPost, NodeStands, SignsFit}
 use Rattle.world_safety.proofs.Delivering.{some_same}
 use Rattle.world_safety.specs.Fits.{FactFits, FitsAt}
 use Rattle.world_safety.proofs.Fitting.{view_fits}
@@ -27,6 +27,7 @@ use Rattle.world_safety.proofs.Fronts.{fronts_again, fronts_first}
 use Rattle.world_safety.proofs.Lists.{all_append, all_flat, all_map}
 use Rattle.world_safety.proofs.Makings.{MakingStands, beginning, fits_in, own_rule_stands, place_in, place_members, rounds_stand, sent_all, view_in}
 use Rattle.world_safety.proofs.Nodes.{event_came, signed_commit}
+use Rattle.world_safety.proofs.Reopening.{IsFound, found_is}
 use Rattle.world_safety.proofs.Sending.{commit_fits, hash_fits, prepare_fits, preprepare_fits}
 
 -- WHAT WAS FOUND, where the node still stands there
@@ -179,5 +180,5 @@ module _ (su : Setup) (i : ℕ) (h : History) (bounded : IsBounded su) (correct 
       let mine : NodeStands n.setup h n.id n.past = subst (λ su. NodeStands su h n.id n.past) (sym setup) (subst (λ i. NodeStands su h i n.past) (sym id) node) in
       let found = found_of n.setup n.id n.past in
       let again = repeats_on past_returns keys event found (begins past_ways keys n event) in
-      let repeated : MakingStands su i h again = repeats_stand (begins past_ways keys n event).state first keys signs event found mine.found in
+      let repeated : MakingStands su i h again = repeats_stand (begins past_ways keys n event).state first keys signs event found (found_is n.setup h n.id n.past first.run mine) in
       rounds_stand su i h bounded correct keys signs 2 (own_rule past_ways event again) (own_rule_stands su i h bounded correct again repeated event good)

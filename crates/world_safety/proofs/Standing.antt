@@ -20,7 +20,13 @@ use Rattle.node_model.specs.Acts.{View, acceptance_due, delivery_due, preparatio
 use Rattle.node_model.specs.Keeping.{is_of_view}
 use Rattle.world_safety.specs.Resting.{has_ground}
 use Rattle.world_safety.specs.Fits.{MessageFits}
-use Rattle.world_safety.specs.Steps.{names, rests}
+use Rattle.world_safety.specs.Steps.{rests}
+
+-- a Commit's signature names its sender
+abbrev pub names : ℕ → VoteMessage → Bool
+names from (message_of.PrePrepare m) = true
+names from (message_of.Prepare m) = true
+names from (message_of.Commit m) = m.sig.signer == from
 
 -- a kept letter rests on a fact, names its sender, is of this configuration and view, near this height, and has a spelling
 pub record IsKeptWell (su : Setup) (h : History) (e v s : ℕ) (letter : Letter) : Type 0 where

@@ -1,6 +1,7 @@
 -- Blocks, certificates and messages that have a spelling.
-use Rattle.std.proofs.Common.{ℕ, ◌≤◌, Option, Some, None}
+use Rattle.std.specs.Prelude.{◌≡◌, ◌≤◌, ℕ, List, Option, Some, None, ⊤}
 use Rattle.ord_types.specs.Grammar.{HasBlockSpelling, HasCertSpelling, HasIdsSpelling, IsNumber}
+use Rattle.ord_types.specs.Hashes.{block_hash}
 use Rattle.ord_types.specs.declared.values.Proof.TheVariants as proof_of
 use Rattle.safety_model.specs.Blocks.{Block}
 use Rattle.safety_model.specs.Facts.{Cert, Proof, signers_of}
@@ -22,7 +23,7 @@ pub record CertFits (cert : Cert) : Type 0 where
   pub signers : HasIdsSpelling (signers_of cert)
 
 abbrev pub ProofFits : Proof → Type 0
-ProofFits proof_of.Raft = Unit {0}
+ProofFits proof_of.Raft = ⊤
 ProofFits (proof_of.Bft cert) = CertFits cert
 
 -- a vote message that has a spelling
@@ -35,19 +36,19 @@ pub record DeliveredFits (b : Block) (proof : Proof) : Type 0 where
   pub behind : ProofFits proof
 
 abbrev pub FactFits : Fact → Type 0
-FactFits (Accepted i e v s d) = Unit {0}
-FactFits (Prepared i e v s d) = Unit {0}
-FactFits (Left i e v) = Unit {0}
-FactFits (Reported i e v r) = Unit {0}
-FactFits (Entered i e v x choice) = Unit {0}
+FactFits (Accepted i e v s d) = ⊤
+FactFits (Prepared i e v s d) = ⊤
+FactFits (Left i e v) = ⊤
+FactFits (Reported i e v r) = ⊤
+FactFits (Entered i e v x choice) = ⊤
 FactFits (Delivered i b proof) = DeliveredFits b proof
 
--- a fact, and the block that an acceptance names, which fits
+-- a fact, and the block that an acceptance names: it has the digest that was accepted, and fits
 abbrev pub ActFits : Fact → Option Block → Type 0
-ActFits (Accepted i e v s d) (Some b) = FitsAt s b
-ActFits (Accepted i e v s d) None = Unit {0}
-ActFits (Prepared i e v s d) o = Unit {0}
-ActFits (Left i e v) o = Unit {0}
-ActFits (Reported i e v r) o = Unit {0}
-ActFits (Entered i e v x choice) o = Unit {0}
-ActFits (Delivered i b proof) o = Unit {0}
+ActFits (Accepted i e v s d) (Some b) = (d ≡ block_hash b) × FitsAt s b
+ActFits (Accepted i e v s d) None = ⊥
+ActFits (Prepared i e v s d) o = ⊤
+ActFits (Left i e v) o = ⊤
+ActFits (Reported i e v r) o = ⊤
+ActFits (Entered i e v x choice) o = ⊤
+ActFits (Delivered i b proof) o = ⊤

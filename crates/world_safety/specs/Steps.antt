@@ -19,7 +19,7 @@ use Rattle.node_model.specs.declared.letter.VoteMessage.TheVariants as message_o
 use Rattle.node_model.specs.Deeds.{deeds_of, past_did}
 use Rattle.node_model.specs.Keeping.{PastNode, timely}
 use Rattle.node_model.specs.Letters.{letter_in, on_wire}
-use Rattle.node_model.specs.Past.{Past, Opened, Came, Did, Signed, accepted_block, facts_of}
+use Rattle.node_model.specs.Past.{Entry, Past, Opened, Came, Did, Signed, facts_of}
 use Rattle.node_model.specs.Restarts.{Found, found_of, past_returns, returned_returns, step}
 use Rattle.node_model.specs.Seen.{NothingAhead, returned_of_past}
 use Rattle.node_model.specs.Steps.{Event, Tick, FromMember, Keys, Making, Post}
@@ -55,50 +55,26 @@ abbrev pub IsGoodEvent : Setup → History → Event → Type 0
 IsGoodEvent su h (Tick offer) = All HasRequestSpelling offer
 IsGoodEvent su h (FromMember from bytes) = (letter : Letter) → letter_in from bytes ≡ Some letter → IsBrought su h letter
 
--- a Commit's signature names its sender
-abbrev pub names : ℕ → VoteMessage → Bool
-names from (message_of.PrePrepare m) = true
-names from (message_of.Prepare m) = true
-names from (message_of.Commit m) = m.sig.signer == from
-
--- a letter rests on a fact, names its sender, and has a spelling
-pub record IsGoodLetter (su : Setup) (h : History) (letter : Letter) : Type 0 where
-  pub rests : IsTrue (rests su h letter)
-  pub named : IsTrue (names letter.from letter.message)
-  pub fits : MessageFits letter.message
-
--- what a node did, the newest first, each fact with the block that an acceptance names
-abbrev pub acts_of : Past → List (Fact × Option Block)
-acts_of [] = []
-acts_of (Opened ∷ past) = acts_of past
-acts_of (Came event accepts ∷ past) = acts_of past
-acts_of (Did f b ∷ past) = (f, b) ∷ acts_of past
-acts_of (Signed m accepts ∷ past) = acts_of past
-
--- what an opening found rests on facts of the node, and its block fits
-pub record IsFound (h : History) (i : ℕ) (f : Found) : Type 0 where
-  pub accepted : IsTrue (has (is_accepted i f.config f.view f.height (block_hash f.block)) h)
-  pub prepared : IsTrue f.is_prepared → IsTrue (has (is_prepared i f.config f.view f.height (block_hash f.block)) h)
-  pub fits : FitsAt f.height f.block
-
 -- node i left its view, or entered one
 abbrev pub moves : ℕ → Fact → Bool
 moves i (Left j e v) = j == i
 moves i (Entered j e v x choice) = j == i
 moves i _ = false
 
--- Node i with this past, where these are all facts: its own facts stand in the history, in their order, and no others of it; it never
--- left or entered a view. Each letter that came in time since it was opened rests on a fact. Its past names the block of each
--- acceptance, and what its last opening found rests on its facts.
+-- What stands in the past of node i rests on the history: each event is good, each acceptance names the block of its digest, and each
+-- Commit that the node signed is of what it prepared.
+abbrev pub IsGoodEntry : Setup → History → ℕ → Entry → Type 0
+IsGoodEntry su h i Opened = ⊤
+IsGoodEntry su h i (Came event accepts) = IsGoodEvent su h event
+IsGoodEntry su h i (Did f b) = ActFits f b
+IsGoodEntry su h i (Signed m accepts) = IsTrue (has (is_prepared i m.config m.view m.number m.digest) h) × MessageFits (message_of.Commit m)
+
+-- Node i with this past, where these are all facts: the history has the facts of its past, in their order, and no others of this
+-- node; it never left or entered a view; and all that stands in its past rests on the history.
 pub record NodeStands (su : Setup) (h : History) (i : ℕ) (past : Past) : Type 0 where
   pub own : own i h ≡ facts_of past
   pub still : has (moves i) h ≡ false
-  pub timely : AllByRecursion (IsGoodLetter su h) (timely su i past)
-  pub accepted : (e v s : ℕ) (b : Block) → accepted_block i e v s past ≡ Some b → IsTrue (has (is_accepted i e v s (block_hash b)) h)
-  pub fresh : (e v s : ℕ) → accepted_block i e v s past ≡ None → has (is_accepted_at i e v s) h ≡ false
-  pub fits : (e v s : ℕ) (b : Block) → accepted_block i e v s past ≡ Some b → FitsAt s b
-  pub acts : AllByRecursion (λ act. ActFits act.0 act.1) (acts_of past)
-  pub found : (f : Found) → found_of su i past ≡ Some f → IsFound h i f
+  pub entries : AllByRecursion (IsGoodEntry su h i) past
 
 -- WHAT IT THEN MAKES
 
