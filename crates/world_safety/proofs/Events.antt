@@ -1,8 +1,7 @@
 -- Every event keeps a good world, also one in which its node is stopped.
-use Rattle.std.proofs.Common.{◌≡◌, ℕ, Bool, true, false, List, [], ◌∷◌, ◌++◌, cond, map, reverse, take, drop, sym, subst, ap, ◌∙◌}
+use Rattle.std.proofs.Common.{◌≡◌, ℕ, Bool, true, false, List, [], ◌++◌, cond, map, reverse, take, sym, subst, ap, ◌∙◌}
 use Rattle.std.specs.Prelude.{◌==◌, not}
 use Rattle.std.specs.List.{AllByRecursion, flat_map}
-use Rattle.std.proofs.lemmas.List.{append_assoc, reverse-append, take-append-drop, take-map}
 use Rattle.std.proofs.lemmas.List.Elements.{All-filter, All-nil}
 use Rattle.ord_types.specs.Grammar.{HasRequestSpelling, IsWord}
 use Rattle.ord_types.specs.declared.values.Proof.{Proof}
@@ -23,19 +22,19 @@ use Rattle.world_model.specs.Worlds.{GoesOn, Node, Outcome, Stops, World, deeds_
 use Rattle.world_safety.specs.Certified.{IsCertifiedFact}
 use Rattle.world_safety.specs.Safe.{IsPreparedStatement}
 use Rattle.world_safety.specs.Within.{after_event, after_event_by, after_outcome}
-use Rattle.world_safety.specs.Steps.{ArePrepared, IsGoodEvent, IsGoodPost, NodeStands}
-use Rattle.world_safety.proofs.Deeds.{AreDeeds, deeds_are, deeds_fit}
+use Rattle.world_safety.specs.Steps.{AreAllowedActs, ArePrepared, IsAllowedStep, IsGoodEvent, IsGoodPost, NodeStands, StandsAfter}
 use Rattle.world_safety.specs.Fits.{FactFits}
 use Rattle.world_safety.proofs.Fronts.{fronts_made}
 use Rattle.world_safety.proofs.Ids.{member_has}
-use Rattle.world_safety.proofs.Lists.{all_append, all_map, all_mapped, all_parts, all_reverse, all_taken, all_unmapped}
+use Rattle.world_safety.proofs.Lists.{all_append, all_map, all_mapped, all_reverse, all_unmapped}
 use Rattle.world_safety.proofs.Makings.{MakingStands, told}
-use Rattle.world_safety.proofs.Nodes.{acts_fit, reopened}
+use Rattle.world_safety.proofs.Nodes.{reopened}
 use Rattle.world_safety.proofs.Own.{stored_more}
 use Rattle.world_safety.proofs.Reading.{EntryIn, entry_over, posted_in, seals_fit}
 use Rattle.world_safety.proofs.Reopening.{DeedFits, did_deeds}
 use Rattle.world_safety.proofs.Repeating.{step_stands}
 use Rattle.world_safety.proofs.Sealing.{AreCertified, IsSealedMaking, step_sealed}
+use Rattle.world_safety.proofs.Stepping.{FrontFits, front_fits, making_after, making_allowed}
 use Rattle.world_safety.proofs.Worlds.{GoodWorld, NodeIn, correct_is, goes_on_good, later_good}
 
 -- a step of a node of a good world
@@ -58,31 +57,30 @@ went_keeps su w node event good is brought =
     let correct = correct_is su i is.correct in
     let st = making_stands su w node event good is brought in
     let g = told h m in
-    let mine : NodeStands su g i m.state.past = subst (λ i. NodeStands su g i m.state.past) st.id (subst (λ su. NodeStands su g m.state.id m.state.past) st.setup st.node) in
-    let acts : AllByRecursion (λ f. (actor f == i) ≡ true) m.facts = subst (λ i. AllByRecursion (λ f. (actor f == i) ≡ true) m.facts) st.id st.actors in
+    let allowed : IsAllowedStep su i h m = making_allowed su i h m st in
+    let after : StandsAfter su g i m.state = making_after su i h m st in
     let members = su.config.members in
-    let posts : AllByRecursion (IsGoodPost members g i) m.posts = subst (λ i. AllByRecursion (IsGoodPost members g i) m.posts) st.id (subst (λ (su : Setup). AllByRecursion (IsGoodPost su.config.members g m.state.id) m.posts) st.setup st.posts) in
     let sent = all_mapped (EntryIn su g) (λ (post : Post). record { from = i; to = post.to; bytes = message_text post.message; came = false }) m.posts
-    (all_map (IsGoodPost members g i) (λ (post : Post). EntryIn su g (record { from = i; to = post.to; bytes = message_text post.message; came = false })) (λ post good. posted_in su g i post.to post.message correct.member good) m.posts posts) in
+    (all_map (IsGoodPost members g i) (λ (post : Post). EntryIn su g (record { from = i; to = post.to; bytes = message_text post.message; came = false })) (λ post good. posted_in su g i post.to post.message correct.member good) m.posts allowed.posts) in
     let delivered = flat_map requests_in m.facts in
     let sealed : IsSealedMaking su.config (keys_of w.seals i) m = step_sealed su.config w.seals i node.state event is.sealed in
     goes_on_good su w (node_after node m) m.facts (w.network ++ sent_by i m.posts) m.signed good
     (record {
       correct = is.correct;
-      run = subst (λ su. IsRun su g) st.setup st.run;
-      fit = st.fit;
-      mine = acts;
+      run = allowed.acts.run;
+      fit = allowed.acts.fit;
+      mine = allowed.acts.mine;
       node = record {
-        setup = st.setup;
-        id = st.id;
+        setup = after.setup;
+        id = after.id;
         correct = is.correct;
-        stands = mine;
+        stands = after.node;
         pool = All-filter (λ r. not (has_id r.id delivered)) HasRequestSpelling node.pool is.pool;
-        stored = ap (λ (entries : List (Block × Proof)). entries ++ flat_map stored_in m.facts) is.stored ∙ sym (stored_more su i m.facts h (all_reverse (λ f. (actor f == i) ≡ true) m.facts acts));
+        stored = ap (λ (entries : List (Block × Proof)). entries ++ flat_map stored_in m.facts) is.stored ∙ sym (stored_more su i m.facts h (all_reverse (λ f. (actor f == i) ≡ true) m.facts allowed.acts.mine));
         sealed = sealed.node;
       };
       sent = all_append (EntryIn su g) w.network (sent_by i m.posts) (all_map (EntryIn su h) (EntryIn su g) (entry_over su h (reverse m.facts)) w.network good.network) sent;
-      prepared = subst (λ i. AllByRecursion (IsPreparedStatement g i) m.signed) st.id st.signed;
+      prepared = allowed.acts.signed;
       certified = sealed.facts;
     })
 
@@ -131,15 +129,6 @@ stop_keeps su w node good is = stopped_keeps su w node [] [] good is (record { r
 
 -- AN EVENT IN WHICH THE NODE IS STOPPED
 
--- the facts of a front stand below the others
-told_front : (k : ℕ) (facts : List Fact) (h : History) → reverse facts ++ h ≡ reverse (drop k facts) ++ (reverse (take k facts) ++ h)
-told_front k facts h =
-    ap (λ (fs : List Fact). reverse fs ++ h) (sym (take-append-drop k facts)) ∙ ap (λ (g : History). g ++ h) (reverse-append (take k facts) (drop k facts)) ∙ append_assoc (reverse (drop k facts)) (reverse (take k facts)) h
-
-run_below : (su : Setup) (g h : History) → IsRun su (g ++ h) → IsRun su h
-run_below su [] h run = run
-run_below su (f ∷ g) h run = run_below su g h run.1
-
 cut_keeps : (su : Setup) (w : World PastNode History) (node : Node PastNode) (event : Event) (kept count : ℕ) → GoodWorld su w → NodeIn su w.told w.seals node → IsGoodEvent su w.told event
     → GoodWorld su (world_stopped_in past_setting w node event kept count)
 cut_keeps su w node event kept count good is brought =
@@ -149,24 +138,19 @@ cut_keeps su w node event kept count good is brought =
     let st = making_stands su w node event good is brought in
     let sealed : IsSealedMaking su.config (keys_of w.seals i) m = step_sealed su.config w.seals i node.state event is.sealed in
     let deeds = deeds_in past_setting w node event in
-    let are : AreDeeds node.state m deeds = deeds_are (keys_of w.seals i) node.state event in
     let front = take kept m.facts in
     let made = made_of kept count m.facts m.signed in
-    let same : front ≡ map fact_of (take kept deeds) = ap (take kept) (sym are.facts) ∙ take-map fact_of kept deeds in
-    let order = told_front kept m.facts h in
-    let run : IsRun su (reverse front ++ h) = run_below su (reverse (drop kept m.facts)) (reverse front ++ h) (subst (IsRun su) order (subst (λ su. IsRun su (told h m)) st.setup st.run)) in
-    let fit : AllByRecursion FactFits (reverse front ++ h) = (all_parts FactFits (reverse (drop kept m.facts)) (reverse front ++ h) (subst (AllByRecursion FactFits) order st.fit)).1 in
-    let mine : AllByRecursion (λ f. (actor f == i) ≡ true) front = all_taken (λ f. (actor f == i) ≡ true) kept m.facts (subst (λ i. AllByRecursion (λ f. (actor f == i) ≡ true) m.facts) st.id st.actors) in
-    let signed : ArePrepared h i front made = subst (λ i. ArePrepared h i front made) st.id (fronts_made (ArePrepared h m.state.id) kept count m.facts m.signed st.fronts) in
+    let acts : AreAllowedActs su i h front made = (making_allowed su i h m st).fronts kept count in
+    let fit : FrontFits i kept m deeds = front_fits su i h (keys_of w.seals i) node.state event st kept in
     let certified : AreCertified su.config (keys_of w.seals i) front made = fronts_made (AreCertified su.config (keys_of w.seals i)) kept count m.facts m.signed sealed.fronts in
     stopped_keeps su w node (take kept deeds) made good is
     (record {
-      run = subst (λ (fs : List Fact). IsRun su (reverse fs ++ h)) same run;
-      fit = subst (λ (fs : List Fact). AllByRecursion FactFits (reverse fs ++ h)) same fit;
-      mine = subst (AllByRecursion (λ f. (actor f == i) ≡ true)) same mine;
-      fits = all_taken DeedFits kept deeds (deeds_fit node.state m deeds are (acts_fit m.state.setup (told h m) m.state.id m.state.past st.node.entries));
-      prepared = subst (λ (fs : List Fact). ArePrepared h i fs made) same signed;
-      certified = subst (λ (fs : List Fact). AreCertified su.config (keys_of w.seals i) fs made) same certified;
+      run = subst (λ (fs : List Fact). IsRun su (reverse fs ++ h)) fit.facts acts.run;
+      fit = subst (λ (fs : List Fact). AllByRecursion FactFits (reverse fs ++ h)) fit.facts acts.fit;
+      mine = subst (AllByRecursion (λ f. (actor f == i) ≡ true)) fit.facts acts.mine;
+      fits = fit.fits;
+      prepared = subst (λ (fs : List Fact). ArePrepared h i fs made) fit.facts acts.signed;
+      certified = subst (λ (fs : List Fact). AreCertified su.config (keys_of w.seals i) fs made) fit.facts certified;
     })
 
 -- AN EVENT

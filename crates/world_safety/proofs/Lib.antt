@@ -17,6 +17,7 @@ pub mod Backing
 pub mod Sending
 pub mod Makings
 pub mod Repeating
+pub mod Stepping
 pub mod Reading
 pub mod Proposing
 pub mod Worlds

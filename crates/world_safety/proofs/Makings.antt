@@ -4,7 +4,7 @@ use Rattle.std.specs.Prelude.{◌==◌, not, nat_le, filter}
 use Rattle.std.specs.List.{All, AllByRecursion, flat_map}
 use Rattle.std.proofs.lemmas.Bool.{eq-eqb, le-leb, or_left, or_right}
 use Rattle.std.proofs.lemmas.List.{reverse-append}
-use Rattle.ord_types.specs.Grammar.{HasRequestSpelling, HasSigSpelling, IsDigest, IsNumber}
+use Rattle.ord_types.specs.Grammar.{HasRequestSpelling, IsDigest, IsNumber}
 use Rattle.ord_types.specs.Hashes.{block_hash}
 use Rattle.ord_types.specs.Members.{is_in}
 use Rattle.ord_types.specs.declared.values.Cert.{Cert}
@@ -19,7 +19,6 @@ use Rattle.safety_model.proofs.Chains.{config_stays}
 use Rattle.safety_model.proofs.FactTests.{accepted_itself, prepared_itself}
 use Rattle.signer_edge.specs.Accepts.{Accepts}
 use Rattle.signer_edge.specs.Statements.{commit_text}
-use Rattle.bft_wire.specs.Messages.{HasMessageSpelling}
 use Rattle.bft_wire.specs.declared.message.Message.{Message}
 use Rattle.bft_wire.specs.declared.message.Message.TheVariants as message_of
 use Rattle.node_model.specs.Leading.{Place}

@@ -1,12 +1,11 @@
 -- What a node is by the list of all facts, and that its acts keep it.
 use Rattle.std.proofs.Common.{◌≡◌, ℕ, Bool, true, false, ◌||◌, ◌&&◌, List, [], ◌∷◌, ◌++◌, cond, refl, sym, subst, ap, ◌∙◌, inl, inr, Option, Some, None, reverse}
 use Rattle.std.specs.Prelude.{◌==◌, not, filter}
-use Rattle.std.specs.List.{All, AllByRecursion, list_any}
+use Rattle.std.specs.List.{AllByRecursion, list_any}
 use Rattle.std.specs.Str.{bytes_eq}
 use Rattle.std.proofs.lemmas.Bool.{or_cases, or_left, or_parts, or_right, and_parts, and_from, eqb-true, eq-eqb}
 use Rattle.ord_types.specs.Hashes.{block_hash}
 use Rattle.ord_types.specs.Members.{is_in, is_raft}
-use Rattle.ord_types.specs.Grammar.{HasRequestSpelling}
 use Rattle.ord_types.specs.declared.values.Proof.{Proof}
 use Rattle.safety_model.specs.Blocks.{Block}
 use Rattle.safety_model.specs.Facts.{History, has, is_accepted, is_accepted_at, is_prepared}
@@ -27,7 +26,6 @@ use Rattle.node_model.specs.Letters.{Commit, config_in, letter_in, on_wire, same
 use Rattle.node_model.specs.Answers.{is_near, is_signed}
 use Rattle.node_model.specs.Steps.{Event, Tick, FromMember}
 use Rattle.node_model.specs.Past.{Entry, Past, Opened, Came, Did, Signed, accepted_block, facts_of}
-use Rattle.node_model.specs.Restarts.{Found, found_of}
 use Rattle.node_model.specs.Keeping.{firsts, is_of_view, is_timely, kept, letter_of, of_another, own_commit, place_of, timely, view_of}
 use Rattle.world_safety.specs.Resting.{has_ground, own}
 use Rattle.world_safety.specs.Steps.{IsBrought, IsGoodEntry, IsGoodEvent, NodeStands, moves, rests}

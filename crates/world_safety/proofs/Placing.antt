@@ -8,8 +8,7 @@ use Rattle.ord_types.specs.Hashes.{header_hash}
 use Rattle.ord_types.specs.declared.values.Proof.TheVariants as proof_of
 use Rattle.safety_model.specs.Blocks.{Block, Config}
 use Rattle.safety_model.specs.Facts.{Cert, History, Proof}
-use Rattle.safety_model.specs.Rules.{IsRun, bound_of, faulty}
-use Rattle.safety_model.specs.Safety.{IsGenesis}
+use Rattle.safety_model.specs.Rules.{IsRun}
 use Rattle.safety_model.specs.State.{Setup, block_or, config_of, delivered, height, last_delivered, tip, view}
 use Rattle.safety_model.specs.declared.fact.Fact.TheVariants.{Delivered}
 use Rattle.safety_model.proofs.Chains.{config_stays}

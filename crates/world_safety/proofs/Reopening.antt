@@ -1,8 +1,8 @@
 -- What a node is after deeds, and when it is opened again.
-use Rattle.std.proofs.Common.{◌≡◌, ℕ, Bool, true, false, ◌&&◌, List, [], ◌∷◌, ◌++◌, map, reverse, cond, refl, sym, subst, ap, ◌∙◌, inl, inr, Option, Some, None}
+use Rattle.std.proofs.Common.{◌≡◌, ℕ, Bool, true, ◌&&◌, List, [], ◌∷◌, ◌++◌, map, reverse, refl, sym, subst, ap, ◌∙◌, Option, Some, None}
 use Rattle.std.specs.Prelude.{◌==◌, option_map}
 use Rattle.std.specs.List.{AllByRecursion}
-use Rattle.std.proofs.lemmas.Bool.{and_parts, eqb-true, or_cases, or_left, or_right}
+use Rattle.std.proofs.lemmas.Bool.{and_parts, eqb-true, or_right}
 use Rattle.std.proofs.lemmas.List.{append_assoc, reverse-append}
 use Rattle.ord_types.specs.Hashes.{block_hash}
 use Rattle.ord_types.specs.declared.values.Proof.TheVariants as proof_of
@@ -20,7 +20,6 @@ use Rattle.node_model.specs.Keeping.{is_prepared_at, place_of, view_of}
 use Rattle.node_model.specs.Past.{Past, Came, Did, Opened, Signed, accepted_block, facts_of}
 use Rattle.node_model.specs.Restarts.{Found, found_of}
 use Rattle.node_model.specs.Steps.{FromMember, Tick}
-use Rattle.world_safety.specs.Resting.{own}
 use Rattle.world_safety.specs.Steps.{IsGoodEntry, NodeStands}
 use Rattle.world_safety.proofs.Delivering.{some_same}
 use Rattle.world_safety.specs.Fits.{ActFits, FitsAt}
@@ -78,9 +77,9 @@ found_opened su h i past run all within f is =
     let p = has (is_prepared_at i e v s) (facts_of past) in
     found_from h i e v s p (accepted_block i e v s past)
     (λ b at.
-      let block : IsAccepted (facts_of past) i e v s b = accepted_in su h i e v s b past all at in
-      let accepted : has (is_accepted i e v s (block_hash b)) h ≡ true = within (is_accepted i e v s (block_hash b)) block.accepted in
-      record { accepted = accepted; prepared = λ yes. prepared_block su h i e v s b run accepted (within (is_prepared_at i e v s) yes); fits = block.fits }) f is
+    let block : IsAccepted (facts_of past) i e v s b = accepted_in su h i e v s b past all at in
+    let accepted : has (is_accepted i e v s (block_hash b)) h ≡ true = within (is_accepted i e v s (block_hash b)) block.accepted in
+    record { accepted = accepted; prepared = λ yes. prepared_block su h i e v s b run accepted (within (is_prepared_at i e v s) yes); fits = block.fits }) f is
 
 found_in_past : (su : Setup) (h : History) (i : ℕ) (past : Past) → IsRun su h → AllByRecursion (IsGoodEntry su h i) past → ((kind : Fact → Bool) → has kind (facts_of past) ≡ true → has kind h ≡ true)
     → (f : Found) → found_of su i past ≡ Some f → IsFound h i f

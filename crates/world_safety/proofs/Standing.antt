@@ -1,9 +1,8 @@
 -- Where a member's place and view are those by the list of all facts, and what is kept rests on it; and that what is due is then allowed.
-use Rattle.std.proofs.Common.{◌≡◌, ℕ, ◌+◌, Bool, true, false, ◌||◌, List, Some, None}
+use Rattle.std.proofs.Common.{◌≡◌, ℕ, ◌+◌, Bool, true, false, List, Some, None}
 use Rattle.std.specs.Prelude.{◌==◌, IsTrue}
 use Rattle.std.specs.List.{AllByRecursion}
 use Rattle.ord_types.specs.Hashes.{block_hash}
-use Rattle.ord_types.specs.Members.{is_in}
 use Rattle.ord_types.specs.declared.values.Proof.TheVariants as proof_of
 use Rattle.safety_model.specs.Blocks.{Block, Request}
 use Rattle.safety_model.specs.Facts.{Cert, History, has, is_accepted, is_accepted_at, is_entered_against}
@@ -14,11 +13,9 @@ use Rattle.signer_edge.specs.Accepts.{Accepts}
 use Rattle.node_model.specs.declared.letter.VoteMessage.TheVariants as message_of
 use Rattle.node_model.specs.declared.letter.Letter.{Letter}
 use Rattle.node_model.specs.declared.letter.VoteMessage.{VoteMessage}
-use Rattle.node_model.specs.Letters.{on_wire}
 use Rattle.node_model.specs.Leading.{Place}
 use Rattle.node_model.specs.Acts.{View, acceptance_due, delivery_due, preparation_due, proposed}
 use Rattle.node_model.specs.Keeping.{is_of_view}
-use Rattle.world_safety.specs.Resting.{has_ground}
 use Rattle.world_safety.specs.Fits.{MessageFits}
 use Rattle.world_safety.specs.Steps.{rests}
 

@@ -1,5 +1,5 @@
 -- Blocks, certificates and messages that have a spelling.
-use Rattle.std.specs.Prelude.{◌≡◌, ◌≤◌, ℕ, List, Option, Some, None, ⊤}
+use Rattle.std.specs.Prelude.{◌≡◌, ◌≤◌, ℕ, Option, Some, None, ⊤}
 use Rattle.ord_types.specs.Grammar.{HasBlockSpelling, HasCertSpelling, HasIdsSpelling, IsNumber}
 use Rattle.ord_types.specs.Hashes.{block_hash}
 use Rattle.ord_types.specs.declared.values.Proof.TheVariants as proof_of

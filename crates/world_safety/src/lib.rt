@@ -3,6 +3,7 @@
 
 ghost use Rattle.world_safety.specs.Certified.{AllWorldsAreCertified};
 ghost use Rattle.world_safety.specs.Safe.{EveryWorldIsSafe};
+ghost use Rattle.world_safety.specs.Steps.{NodesStandAfterOthers, NodesStandAfterSteps, NodesStandAfterStops, NodesStandAtFirst, StepsAreAllowed, StepsInPlaceAreAllowed};
 ghost use Rattle.world_safety.specs.Telling.{AllWorldsAreSafe, EveryTextIsTold};
 ghost use Rattle.world_safety.specs.TooMany.{EndsOnlyWhereTooMany, EndsWhereTooMany};
 ghost use Rattle.world_safety.specs.Within.{WorldsAreAmongAll};
@@ -38,4 +39,28 @@ pub fn every_world_is_a_run()
 pub fn ends_too_many()
     ensures only_there { EndsOnlyWhereTooMany }
     ensures there { EndsWhereTooMany }
+{}
+
+/// A step of one node, whatever world it is in. Where the history is a run in which the node stands, which is correct, and no
+/// more members are Byzantine than the bound of the configuration; where the event brings requests that have a spelling, or bytes
+/// that spell no vote message or one that rests on a fact of its sender, if that is correct; and where the keys sign with what has
+/// a spelling: each fact of the step is the node's own, and is allowed by that run and the step's facts before it, so that the
+/// history with all of them is a run. Each message goes to a member and rests on a fact of the node in that history, and each
+/// statement that the step signs is the commit statement of a preparation of the node in it. Where the step is stopped, this holds of
+/// each front of its facts and the signatures that were made by then. It needs no premise on the signatures that the keys
+/// accept, nor on collisions of hashes. It is so of the node of the model, whose state is computed from its past, and of one
+/// whose state is updated in place, where nothing stands ahead of its height (`node_model::restarts_agree`).
+///
+/// A node stands in a history that has the facts of its past, in their order, and no others of it, none by which it left or entered a
+/// view, and on which its past rests: each event was good, each acceptance names the block of its digest, and each signed Commit is of
+/// its preparation. It stands so from its first opening on, after each step by the history with the step's facts, after a step that
+/// was stopped and the opening behind it by the history with those that were kept, and after whatever another node does. A law
+/// about the model; it does nothing.
+pub fn steps_are_allowed()
+    ensures from_past { StepsAreAllowed }
+    ensures in_place { StepsInPlaceAreAllowed }
+    ensures at_first { NodesStandAtFirst }
+    ensures after_steps { NodesStandAfterSteps }
+    ensures after_stops { NodesStandAfterStops }
+    ensures after_others { NodesStandAfterOthers }
 {}
