@@ -4,5 +4,6 @@ pub mod FollowLemmas
 pub mod KeptLemmas
 pub mod PastLemmas
 pub mod RestartLemmas
+pub mod SignatureLemmas
 pub mod StepLemmas
 pub mod StopLemmas

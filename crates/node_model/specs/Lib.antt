@@ -9,4 +9,5 @@ pub mod Letters
 pub mod Past
 pub mod Restarts
 pub mod Seen
+pub mod Signatures
 pub mod Steps

@@ -5,8 +5,10 @@ mod act;
 mod agreement;
 mod letter;
 mod restarts;
+mod signatures;
 
 pub use act::Act;
 pub use agreement::steps_agree;
 pub use letter::{Letter, VoteMessage};
 pub use restarts::{deeds_are_told, restarts_agree, stops_agree};
+pub use signatures::signatures_follow;
