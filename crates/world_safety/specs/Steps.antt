@@ -138,7 +138,7 @@ pub record StandsAfter (su : Setup) (h : History) (i : ℕ) (n : PastNode) : Typ
   pub node : NodeStands su h i n.past
 
 -- A node stands from its first opening on: after each of its steps by the history with the step's facts, after one that was stopped and the
--- opening behind it by the history with those that were kept, and after a fact of another node.
+-- opening behind it by the history with those that were kept, after an opening between two steps, and after a fact of another node.
 abbrev pub NodesStandAtFirst : Type 0
 NodesStandAtFirst = (su : Setup) (i : ℕ) → NodeStands su [] i (Opened ∷ [])
 
@@ -151,6 +151,9 @@ abbrev pub NodesStandAfterStops : Type 0
 NodesStandAfterStops =
     (h : History) (keys : Keys) (n : PastNode) (event : Event) (kept : ℕ) → MayStep h keys n event
     → NodeStands n.setup (reverse (take kept (step past_returns keys n event).facts) ++ h) n.id (Opened ∷ past_did (take kept (deeds_of past_returns keys n event)) n.past)
+
+abbrev pub NodesStandAfterOpenings : Type 0
+NodesStandAfterOpenings = (su : Setup) (h : History) (i : ℕ) (past : Past) → NodeStands su h i past → NodeStands su h i (Opened ∷ past)
 
 abbrev pub NodesStandAfterOthers : Type 0
 NodesStandAfterOthers = (su : Setup) (h : History) (i : ℕ) (past : Past) (f : Fact) → (actor f == i) ≡ false → NodeStands su h i past → NodeStands su (f ∷ h) i past

@@ -3,7 +3,7 @@
 
 ghost use Rattle.world_safety.specs.Certified.{AllWorldsAreCertified};
 ghost use Rattle.world_safety.specs.Safe.{EveryWorldIsSafe};
-ghost use Rattle.world_safety.specs.Steps.{NodesStandAfterOthers, NodesStandAfterSteps, NodesStandAfterStops, NodesStandAtFirst, StepsAreAllowed, StepsInPlaceAreAllowed};
+ghost use Rattle.world_safety.specs.Steps.{NodesStandAfterOpenings, NodesStandAfterOthers, NodesStandAfterSteps, NodesStandAfterStops, NodesStandAtFirst, StepsAreAllowed, StepsInPlaceAreAllowed};
 ghost use Rattle.world_safety.specs.Telling.{AllWorldsAreSafe, EveryTextIsTold};
 ghost use Rattle.world_safety.specs.TooMany.{EndsOnlyWhereTooMany, EndsWhereTooMany};
 ghost use Rattle.world_safety.specs.Within.{WorldsAreAmongAll};
@@ -54,13 +54,14 @@ pub fn ends_too_many()
 /// A node stands in a history that has the facts of its past, in their order, and no others of it, none by which it left or entered a
 /// view, and on which its past rests: each event was good, each acceptance names the block of its digest, and each signed Commit is of
 /// its preparation. It stands so from its first opening on, after each step by the history with the step's facts, after a step that
-/// was stopped and the opening behind it by the history with those that were kept, and after whatever another node does. A law
-/// about the model; it does nothing.
+/// was stopped and the opening behind it by the history with those that were kept, after an opening between two steps, and after
+/// whatever another node does. A law about the model; it does nothing.
 pub fn steps_are_allowed()
     ensures from_past { StepsAreAllowed }
     ensures in_place { StepsInPlaceAreAllowed }
     ensures at_first { NodesStandAtFirst }
     ensures after_steps { NodesStandAfterSteps }
     ensures after_stops { NodesStandAfterStops }
+    ensures after_openings { NodesStandAfterOpenings }
     ensures after_others { NodesStandAfterOthers }
 {}
