@@ -1,4 +1,5 @@
 mod ActLemmas
+mod EventLemmas
 mod Folds
 mod GoingOn
 mod KeepingLemmas
