@@ -2,10 +2,12 @@
 use Rattle.std.proofs.Common.{◌≡◌, ℕ, Bool, true, false, ◌==◌, List, [], ◌∷◌, map, Option, Some, None, option_map, option_and_then, Result, Ok, Err, IfOk, OnOk, OnErr, IsTrue, inl, inr, refl, sym, ap, subst, ◌∙◌}
 use Rattle.std.proofs.lemmas.Bool.{cases_Bool, eq-eqb, ne_eqb}
 use Rattle.ord_types.specs.Grammar.{IsNumber}
-use Rattle.ord_types.specs.declared.values.Config.{Config}
+use Rattle.ord_types.specs.declared.values.Block.{Block}
 use Rattle.ord_types.specs.declared.values.Place.{Place}
 use Rattle.gate_log.specs.Disk.{State, now}
 use Rattle.signer_edge.specs.Accepts.{Accepts}
+use Rattle.safety_model.specs.Blocks.{Request}
+use Rattle.bft_wire.specs.declared.reason.Reason.{Reason}
 use Rattle.bft_wire.specs.Reading.{message_in}
 use Rattle.bft_wire.specs.declared.message.Message.{Message}
 use Rattle.bft_wire.specs.declared.message.Message.TheVariants as wire
@@ -16,21 +18,25 @@ use Rattle.node_model.specs.declared.act.Act.TheVariants as act_of
 use Rattle.node_model.specs.declared.letter.Letter.{Letter}
 use Rattle.node_model.specs.declared.letter.VoteMessage.{VoteMessage}
 use Rattle.node_model.specs.declared.letter.VoteMessage.TheVariants as vote_of
-use Rattle.node_model.specs.Acts.{View, due}
-use Rattle.node_model.specs.Answers.{accepts_nothing, after_act, after_prepare, after_vote, at_place, is_new, kept_after, prepare_answer, vote_answer}
+use Rattle.node_model.specs.Acts.{View, accept_act, due, proposed}
+use Rattle.node_model.specs.Answers.{accepts_nothing, act_or, after_act, after_prepare, after_propose, after_vote, at_place, is_new, kept_after, prepare_answer, propose_answer, reason_or, vote_answer}
 use Rattle.node_model.specs.Cores.{Core, core_comes, core_hears}
 use Rattle.node_model.specs.Deeds.{unlogged}
 use Rattle.node_model.specs.Letters.{Commit, PrePrepare, Prepare, letter_in, vote_in}
 use Rattle.node_model.specs.Restarts.{found_after}
 use Rattle.node_model.specs.Steps as steps
-use Rattle.node_model.specs.Steps.{FromMember, begins}
+use Rattle.node_model.specs.Steps.{FromMember, begins, makes_accepted, preprepare_message, propose_round}
 use Rattle.view_core.specs.Places.{StandsAt}
 use Rattle.bft_node.specs.Held.{Held}
-use Rattle.bft_node.specs.Making.{Around, Before, Begins, Makes, Tells, act_in, node_ways}
+use Rattle.bft_node.specs.Making.{Around, Before, Begins, Makes, Step, Tells, act_in, node_ways, place_in, view_in}
+use Rattle.bft_node.specs.NodeFaults.{IsNoLimit}
 use Rattle.bft_node.specs.Running.{IsReady, IsSound, as_found, place_of, state_of}
 use Rattle.bft_node.specs.Stores.{IsKept, config_of, held_of}
 use Rattle.bft_node.specs.declared.live.Running.{Running}
+use Rattle.bft_node.specs.declared.node_fault.NodeFault.{NodeFault}
+use Rattle.bft_node.specs.declared.node_fault.NodeFault.TheVariants as node_of
 use Rattle.bft_node.specs.declared.store.Store.{Store}
+use Rattle.bft_node.proofs.MakingLemmas.{Extends, Makes-view, extends_same, front_more, front_of}
 use Rattle.bft_node.proofs.ViewLemmas.{StandsAt-after_act, StandsAt-kept_after, act_in-vote_answer, at_place-at, due-prepared, left-kept, left-prepared, me-after_act, me-kept_after}
 
 -- A VIEW THAT CHANGED
@@ -237,3 +243,71 @@ module _ (r : Running) (left : View) (from : ℕ) (message : Prepare) (told : Ac
         begun b r (with_view r left) a (FromMember from bytes) act_of.Kept (kept_after a.accepts (place_of r) r.view (letter_of from (vote_of.Prepare message))) h s.me refl refl refl comes_prepare
         (me-kept_after a.accepts (place_of r) r.view (letter_of from (vote_of.Prepare message)))
         (left-kept a.accepts (place_of r) r.view from message told left s.at answer_here after_here none)
+
+-- want of memory is no limit
+pub no_memory : (fault : NodeFault) → fault ≡ node_of.NoMemory → IsNoLimit fault
+no_memory fault e = subst IsNoLimit (sym e) tt
+
+-- A PROPOSAL
+
+offer_taken : (o : Option Block) (reasons : Option Reason) (last : Reason) (block : Block) → act_or (accept_act o) (reason_or reasons last) ≡ act_of.Accept block → o ≡ Some block
+offer_taken (Some x) reasons last block e = cc
+offer_taken None None last block e = cc
+offer_taken None (Some reason) last block e = cc
+
+offer_left : (o : Option Block) (reasons : Option Reason) (last : Reason) (w : View) → ((x : Block) → act_or (accept_act o) (reason_or reasons last) ≡ act_of.Accept x → ⊥)
+    → (o ≡ None) × (after_act (act_or (accept_act o) (reason_or reasons last)) w ≡ w)
+offer_left (Some x) reasons last w h = absurd (h x refl)
+offer_left None None last w h = (refl, refl)
+offer_left None (Some reason) last w h = (refl, refl)
+
+-- what a proposal leaves, whatever is answered
+pub propose_view : {T E : Type 0} (result : Result T E) (r : Running) (p : Place) (offer : List Request) (left : View) → IsSound r → p ≡ place_of r
+    → OnOk result (left ≡ after_propose p r.view offer) → OnErr result (left ≡ at_place p r.view) → IsViewOf r left
+propose_view result r p offer left s here ok err =
+    let at = at_place-at (place_of r) r.view s.at in
+    whatever result (left ≡ after_propose p r.view offer) (left ≡ at_place p r.view) (IsViewOf r left) ok err
+    (λ e. subst (IsViewOf r)
+        (sym (e ∙ ap (λ q. after_propose q r.view offer) here ∙ ap (λ v. after_act (propose_answer (place_of r) v offer) v) at))
+        (act_view r (propose_answer (place_of r) r.view offer) r.view (same_view r s)))
+    (λ e. subst (IsViewOf r) (sym (e ∙ ap (λ q. at_place q r.view) here ∙ at)) (same_view r s))
+
+-- with the proposal that is due
+abbrev pub proposes : Before → Step → List Request → Step
+proposes b m offer = propose_round node_ways (proposed (place_in m) (view_in m) offer) m
+
+extends_proposal : (m : Step) (o : Option Block) → Extends m (propose_round node_ways o m)
+extends_proposal m None = extends_same m
+extends_proposal m (Some block) = record { deeds = front_more m.state.deeds _; signed = front_of m.signed; rests = refl }
+
+pub extends_proposes : (b : Before) (m : Step) (offer : List Request) → Extends m (proposes b m offer)
+extends_proposes b m offer = extends_proposal m (proposed (place_in m) (view_in m) offer)
+
+module _ (b : Before) (m : Step) (r : Running) (a : Around) (h : Makes b m act_of.Kept r a) (s : IsSound r) (offer : List Request) (left : View) (told : Act) (p : Place) (here : p ≡ place_of r)
+    (answer : told ≡ propose_answer p (at_place p r.view) offer) (after : left ≡ after_propose p r.view offer) where
+  answers : told ≡ propose_answer (place_of r) r.view offer
+  answers = answer ∙ ap (λ q. propose_answer q (at_place q r.view) offer) here ∙ ap (λ v. propose_answer (place_of r) v offer) (at_place-at (place_of r) r.view s.at)
+
+  leaves : left ≡ after_act told r.view
+  leaves =
+      after ∙ ap (λ q. after_propose q r.view offer) here ∙ ap (λ v. after_act (propose_answer (place_of r) v offer) v) (at_place-at (place_of r) r.view s.at)
+      ∙ ap (λ t. after_act t r.view) (sym answers)
+
+  offered : proposed (place_of r) r.view offer ≡ proposed (place_in m) (view_in m) offer
+  offered = ap (λ q. proposed q r.view offer) h.place ∙ ap (λ v. proposed (place_in m) v offer) h.view
+
+  module _ (block : Block) (is : told ≡ act_of.Accept block) where
+    pub proposed_makes : Makes b m (act_of.Accept block) (with_view r left) a
+    proposed_makes = Makes-view b m act_of.Kept (act_of.Accept block) r (with_view r left) a h refl refl refl (leaves ∙ ap (λ t. after_act t r.view) is ∙ ap (λ v. after_act (act_of.Accept block) v) h.view)
+
+    pub proposed_round : proposes b m offer ≡ makes_accepted node_ways block (preprepare_message (place_in m) (view_in m) block ∷ []) m
+    proposed_round = ap (λ o. propose_round node_ways o m) (sym offered ∙ offer_taken (proposed (place_of r) r.view offer) _ _ block (sym answers ∙ is))
+
+  module _ (none : (x : Block) → told ≡ act_of.Accept x → ⊥) where
+    kept_offer : (proposed (place_of r) r.view offer ≡ None) × (after_act (propose_answer (place_of r) r.view offer) r.view ≡ r.view)
+    kept_offer = offer_left (proposed (place_of r) r.view offer) _ _ r.view (λ x e. none x (answers ∙ e))
+
+    pub unproposed_makes : Makes b (proposes b m offer) act_of.Kept (with_view r left) a
+    unproposed_makes =
+        subst (λ (n : Step). Makes b n act_of.Kept (with_view r left) a) (sym (ap (λ o. propose_round node_ways o m) (sym offered ∙ kept_offer.0)))
+        (Makes-view b m act_of.Kept act_of.Kept r (with_view r left) a h refl refl refl (leaves ∙ ap (λ t. after_act t r.view) answers ∙ kept_offer.1 ∙ h.view))
