@@ -1,5 +1,5 @@
 -- A deed that is made durable and told, in a step so far.
-use Rattle.std.proofs.Common.{◌≡◌, ℕ, Bool, List, [], ◌∷◌, ◌++◌, IsTrue, refl, sym, ap, subst, ◌∙◌}
+use Rattle.std.proofs.Common.{◌≡◌, ℕ, Bool, List, [], ◌∷◌, ◌++◌, inl, Option, Result, Ok, Err, IsSome, IfErr, IsErrAnd, IsTrue, refl, sym, ap, subst, ◌∙◌}
 use Rattle.std.specs.List.{flat_map}
 use Rattle.ord_types.specs.Grammar.{IsNumber}
 use Rattle.ord_types.specs.Hashes.{block_hash}
@@ -24,10 +24,15 @@ use Rattle.bft_node.specs.Held.{Held, with_deed, with_deeds}
 use Rattle.bft_node.specs.Keeping.{Keeps, KeepsWithin}
 use Rattle.bft_node.specs.Making.{Before, BeganOnChain, Makes, Step, around, done_by}
 use Rattle.bft_node.specs.Running.{IsReady, IsSound, place_of}
-use Rattle.bft_node.specs.Stores.{IsKept, config_of, held_of}
+use Rattle.bft_node.specs.NodeFaults.{NeedsLimit, store_fault, write_limit}
+use Rattle.bft_node.specs.Stores.{IsKept, WriteAnswers, config_of, held_of}
 use Rattle.bft_node.specs.declared.live.Done.{Done}
 use Rattle.bft_node.specs.declared.live.Out.{Out}
 use Rattle.bft_node.specs.declared.live.Running.{Running}
+use Rattle.bft_node.specs.declared.fault.StoreFault.{StoreFault}
+use Rattle.bft_node.specs.declared.fault.StoreFault.TheVariants as store_of
+use Rattle.bft_node.specs.declared.node_fault.NodeFault.{NodeFault}
+use Rattle.bft_node.specs.declared.store.Store.{Store}
 use Rattle.bft_node.proofs.Running.{runs_go_on}
 use Rattle.bft_node.proofs.MakingLemmas.{flat_map-one, with_deeds-append}
 
@@ -66,6 +71,22 @@ pub keeps_within : (deed : Deed) (r : Running) (tells : Bool) (before after : Li
     → (accepts : Accepting) → KeepsWithin deed r accepts tells before after
 keeps_within deed r tells before after went accepts judge keeps chain told =
     went judge told (chain_stays accepts judge (config_of r.store) (held_of r.store).blocks keeps chain)
+
+-- A WRITE THAT NEEDS MORE THAN MAY BE
+
+-- why the write of a deed failed
+write_needs : (store : Store) (deed : Deed) (limit : Option ℕ) (before later : ℕ) (fault : StoreFault) → write_limit store deed ≡ limit → WriteAnswers limit before later (Err fault) → NeedsLimit deed (held_of store) (store_fault fault)
+write_needs store deed limit before later (store_of.Limit n) same answers =
+    let some : IsSome (write_limit store deed) = subst IsSome (sym (same ∙ answers)) refl in
+    inl (refl, (store, refl, some))
+write_needs store deed limit before later store_of.NoMemory same answers = tt
+write_needs store deed limit before later store_of.Disk same answers = tt
+
+pub needs_limit : (store : Store) (deed : Deed) (limit : Option ℕ) (before later : ℕ) (fault : StoreFault) (result : Result (Unit {0}) NodeFault) → write_limit store deed ≡ limit → WriteAnswers limit before later (Err fault)
+    → IsErrAnd result (λ told. told ≡ store_fault fault) → IfErr result (NeedsLimit deed (held_of store))
+needs_limit store deed limit before later fault (Ok x) same answers told = tt
+needs_limit store deed limit before later fault (Err e) same answers told =
+    subst (NeedsLimit deed (held_of store)) (sym told) (write_needs store deed limit before later fault same answers)
 
 -- IN A STEP SO FAR, where the deed is the definition's
 
