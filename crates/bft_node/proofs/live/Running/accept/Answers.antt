@@ -26,7 +26,7 @@ returns-in_err-keep_acceptance-clause-makes g c = λ b m h.
     let needs = subst (λ (x : Block). NeedsLimit (acceptance (place_of r) r.view x) (held_of r.store) c.in_err-keep_acceptance.field-0.0) c.in_ok-accepted.ensures c.in_err-keep_acceptance.ensures.limit in
     given_up c.from_residual-in_err-keep_acceptance.result _ _ _ c.from_residual-in_err-keep_acceptance.ensures.1
     (λ fault is. accepted_stopped b m c.args.block alone (λ p w. refl) r _ _ _ _ c.args.out.now h within c.requires.kept fault
-    (accepted_limit b m c.args.block alone (λ p w. refl) r _ _ _ _ c.args.out.now h fault (subst (NeedsLimit (acceptance (place_of r) r.view c.args.block) (held_of r.store)) (sym is) needs)))
+    (accepted_limit b m c.args.block alone (λ p w. refl) r _ _ _ (g.D.Disk.moments c.keep_acceptance.new.disk) c.args.out.now h fault (subst (NeedsLimit (acceptance (place_of r) r.view c.args.block) (held_of r.store)) (sym is) needs)))
 
 pub returns-in_err-send_prepare-clause-makes : goal.returns-in_err-send_prepare-clause-makes
 returns-in_err-send_prepare-clause-makes g c = λ b m h.
