@@ -211,6 +211,21 @@ vote_told b r left a from bytes message vote told accepts p s other here answer 
     (me-kept_after a.accepts (place_of r) r.view letter) (left_here ∙ ap (after_act told) same)
     (ap act_in told_here ∙ act_in-vote_answer accepts (place_of r) r.view letter ∙ ap (λ (k : Accepts). due k (place_of r) (kept_after k (place_of r) r.view letter)) (sym is))
 
+-- whatever comes
+heard : (o : Option Letter) (accepts : Accepts) (r : Running) → (came : View) × (core_hears o accepts (core_of r) ≡ core_of (with_view r came)) × (came.me ≡ r.view.me)
+heard None accepts r = (r.view, refl, refl)
+heard (Some letter) accepts r =
+    elim (cases_Bool (letter.from == r.view.me)) [
+      | inl e ↦ (r.view, rw e, refl)
+      | inr e ↦ (kept_after accepts (place_of r) r.view letter, rw e, me-kept_after accepts (place_of r) r.view letter)
+    ]
+
+pub message_begun : (b : Before) (r : Running) (a : Around) (from : ℕ) (bytes : List ℕ) → Begins b r a → r.view.me ≡ r.id
+    → (came : View) × Makes b (begins node_ways b.keys (unlogged (state_of r)) (FromMember from bytes)) act_of.Kept (with_view r came) a
+message_begun b r a from bytes h mine =
+    let came = heard (letter_in from bytes) (b.keys.accepts []) r in
+    (came.0, begun b r (with_view r came.0) a (FromMember from bytes) act_of.Kept came.0 h mine refl refl refl came.1 came.2 refl)
+
 -- A PREPARE of another member
 
 module _ (r : Running) (left : View) (from : ℕ) (message : Prepare) (told : Act) (p : Place) (s : IsSound r) (other : from ≡ r.id → ⊥) (here : p ≡ place_of r) (answer : told ≡ prepare_answer p (at_place p r.view) (letter_of from (vote_of.Prepare message))) (after : left ≡ after_prepare p r.view (letter_of from (vote_of.Prepare message))) where
@@ -311,3 +326,7 @@ module _ (b : Before) (m : Step) (r : Running) (a : Around) (h : Makes b m act_o
     unproposed_makes =
         subst (λ (n : Step). Makes b n act_of.Kept (with_view r left) a) (sym (ap (λ o. propose_round node_ways o m) (sym offered ∙ kept_offer.0)))
         (Makes-view b m act_of.Kept act_of.Kept r (with_view r left) a h refl refl refl (leaves ∙ ap (λ t. after_act t r.view) answers ∙ kept_offer.1 ∙ h.view))
+
+-- the proposal goes before the Prepare
+abbrev pub proposal_first : Block → Place → View → List Message
+proposal_first block p w = preprepare_message p w block ∷ []

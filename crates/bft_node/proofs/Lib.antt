@@ -14,4 +14,5 @@ mod SpelledLemmas
 mod Standings
 mod Stands
 mod StepDeeds
+mod StepLemmas
 mod ViewLemmas

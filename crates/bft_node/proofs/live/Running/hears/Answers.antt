@@ -56,6 +56,7 @@ pub returns : goal.returns
 returns g c =
     let r = c.args.self.now in
     record {
+      same = c.told-in_default.ensures.same;
       sound = c.told-in_default.ensures.sound;
       ready = c.told-in_default.ensures.ready;
       fits = c.told-in_default.ensures.fits;

@@ -27,6 +27,7 @@ pub returns : goal.returns
 returns g c =
     let left = prepare_view c.args.self.now c.on_prepare-told.new.self c.args.from c.args.message.now c.on_prepare-told.result c.place.result.now c.requires.sound c.requires.other c.place.ensures c.on_prepare-told.ensures.answer c.on_prepare-told.ensures.after in
     record {
+      same = record { id = c.told.ensures.same.id; config = c.told.ensures.same.config };
       sound = c.told.ensures.sound;
       ready = λ tells moments ready. c.told.ensures.ready tells moments (view_ready c.args.self.now c.on_prepare-told.new.self left tells moments ready);
       fits = c.told.ensures.fits;
