@@ -1,4 +1,5 @@
 mod ActLemmas
+mod CommitLemmas
 mod Folds
 mod GoingOn
 mod KeepingLemmas

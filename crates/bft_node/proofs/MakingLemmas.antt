@@ -299,3 +299,6 @@ told_as b m told next r a same h = subst (λ (x : Act). Makes b m x r a) same h
 -- what the disk tells by another name
 pub makes_tells : (b : Before) (m : Step) (told : Act) (r : Running) (accepts : Accepts) (t u : Bool) (moments : List State) (out : Out) → u ≡ t → Makes b m told r (around accepts t moments out) → Makes b m told r (around accepts u moments out)
 makes_tells b m told r accepts t u moments out same h = subst (λ (v : Bool). Makes b m told r (around accepts v moments out)) (sym same) h
+
+pub tells_more : (b : Before) (m : Step) (told : Act) (r : Running) (accepts : Accepts) (t u : Bool) (moments : List State) (out : Out) → u ≡ t → Tells b m told r (around accepts t moments out) → Tells b m told r (around accepts u moments out)
+tells_more b m told r accepts t u moments out same h = record { makes = makes_tells b m told r accepts t u moments out same h.makes; due = h.due }
