@@ -128,6 +128,11 @@ module _ {K : Type 0} (acc : K → Accepts) (ks : Keys) (signed : List (List ℕ
       ∙ ap (λ i. map sent_of before.sends ++ map text_of (to_all p.config.members i (wire.Commit (commit_at r digest c.sig)))) id
       ∙ ap (λ (x : Commit). map sent_of before.sends ++ map text_of (to_all p.config.members w.me (wire.Commit x))) same_commit
 
+  -- the statement is the definition's
+  pub commit_signed : signed ++ statement_of p w digest ∷ [] ≡ signed ++ statements_in signings
+  commit_signed =
+      ap (λ s. signed ++ s ∷ []) (sym (same_statement r p w digest place view)) ∙ ap (λ (l : List (Signing K)). signed ++ statements_in l) (sym c.signed)
+
   -- more is accepted
   pub commit_grows : Grows acc old signings → KeepsAccepted (acc old) (acc last)
   commit_grows grows = (subst (λ (l : List (Signing K)). Grows acc old l) c.signed grows).0
@@ -233,6 +238,11 @@ module _ {K : Type 0} (acc : K → Accepts) (b : Before) (m : Step) (digest : Li
             chain = λ began. subst (λ (s : Store). IsChain (acc last) b.config (held_of s).blocks) (sym c.store) (chain_stays (acc old) (acc last) b.config (held_of mid.store).blocks keeps (mid_chain began));
             went = goes_accepting b made (acc old) (acc last) tells after keeps (kept_went b m (act_of.Prepare digest) r (acc old) tells moments after out there next prepared_deed h within);
           }
+
+      pub prepared_signed : made.signed ≡ m.signed ++ statements_in signings
+      prepared_signed =
+          let w = after_act (act_of.Prepare digest) (view_in m) in
+          commit_signed acc b.keys m.signed (place_in m) w digest told mid new old last signings mid_out after_out mid_place mid_view (k.still.id ∙ h.id ∙ sym h.me) at c fit
 
       pub prepared_tells : Tells b made told new (around (acc last) tells after after_out)
       prepared_tells =

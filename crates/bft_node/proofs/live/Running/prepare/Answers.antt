@@ -5,7 +5,7 @@ use Rattle.bft_node.specs.Making.{node_ways}
 use Rattle.bft_node.specs.NodeFaults.{NeedsLimit}
 use Rattle.bft_node.specs.Running.{place_of}
 use Rattle.bft_node.specs.Stores.{held_of}
-use Rattle.bft_node.proofs.CommitLemmas.{ends_same, goes_on_with, prepared_stopped, prepared_tells, unsent_stopped}
+use Rattle.bft_node.proofs.CommitLemmas.{ends_same, goes_on_with, prepared_signed, prepared_stopped, prepared_tells, unsent_stopped}
 use Rattle.bft_node.proofs.MakingLemmas.{given_up, tells_more}
 use Rattle.bft_node.proofs.live.Running.prepare.Goals as goal
 
@@ -33,8 +33,11 @@ returns-clause-makes g c =
       after = s.after;
       what = λ b m fit grows h.
           goes_on_with c.commit.result _ _ _ _ _ s.what c.commit.ensures.no_limit
-          (λ told made. tells_more b (makes_prepared node_ways b.keys c.args.digest m) told c.commit.new.self _ _ _ _ c.commit.new.out c.keep_preparation.ensures.tells
+          (λ told made.
+              (tells_more b (makes_prepared node_ways b.keys c.args.digest m) told c.commit.new.self _ _ _ _ c.commit.new.out c.keep_preparation.ensures.tells
               (prepared_tells g.K.Verifier.accepts b m c.args.digest r c.args.keys.now _ _ _ c.args.out.now h c.requires.kept (c.keep_preparation.ensures.any_moment _)
+              mid c.keep_preparation.new.out c.in_ok-keep_preparation.ensures.keeps told c.commit.new.self c.commit.new.keys s.signings c.commit.new.out c.in_ok-keep_preparation.ensures.ready.sound.at made fit grows),
+              prepared_signed g.K.Verifier.accepts b m c.args.digest r c.args.keys.now _ _ _ c.args.out.now h c.requires.kept (c.keep_preparation.ensures.any_moment _)
               mid c.keep_preparation.new.out c.in_ok-keep_preparation.ensures.keeps told c.commit.new.self c.commit.new.keys s.signings c.commit.new.out c.in_ok-keep_preparation.ensures.ready.sound.at made fit grows))
           (λ fault no_limit most. unsent_stopped g.K.Verifier.accepts b m c.args.digest r c.args.keys.now _ _ _ c.args.out.now h c.requires.kept (c.keep_preparation.ensures.any_moment _)
               mid c.keep_preparation.new.out c.in_ok-keep_preparation.ensures.keeps
