@@ -139,8 +139,8 @@ module _ {K : Type 0} (acc : K → Accepts) (ks : Keys) (signed : List (List ℕ
 
 -- A PREPARATION
 
-pub extends_prepared : (b : Before) (m : Step) (digest : List ℕ) → Extends m (makes_prepared node_ways b.keys digest m)
-extends_prepared b m digest = record { deeds = front_more m.state.deeds _; signed = front_more m.signed _; rests = refl }
+pub extends_prepared : (keys : Keys) (m : Step) (digest : List ℕ) → Extends m (makes_prepared node_ways keys digest m)
+extends_prepared keys m digest = record { deeds = front_more m.state.deeds _; signed = front_more m.signed _; rests = refl }
 
 module _ {K : Type 0} (acc : K → Accepts) (b : Before) (m : Step) (digest : List ℕ) (r : Running) (old : K) (tells : Bool) (moments after : List State) (out : Out)
     (h : Makes b m (act_of.Prepare digest) r (around (acc old) tells moments out)) (kept : IsTrue tells → IsKept r.store (now moments)) (within : KeepsWithin (preparation (place_of r) r.view digest) r (acc old) tells moments after) where

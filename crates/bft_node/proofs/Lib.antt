@@ -10,6 +10,7 @@ mod PlaceLemmas
 mod Resumed
 mod RoundLemmas
 mod Running
+mod SigningLemmas
 mod SpelledLemmas
 mod Standings
 mod Stands
