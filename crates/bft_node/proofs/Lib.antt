@@ -1,4 +1,5 @@
 mod ActLemmas
+mod CommitLemmas
 mod EventLemmas
 mod Folds
 mod GoingOn
@@ -10,6 +11,7 @@ mod PlaceLemmas
 mod Resumed
 mod RoundLemmas
 mod Running
+mod SigningLemmas
 mod SpelledLemmas
 mod Standings
 mod Stands
