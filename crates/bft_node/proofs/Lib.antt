@@ -4,6 +4,7 @@ mod GoingOn
 mod KeepingLemmas
 mod MakingLemmas
 mod Nexts
+mod OpenLemmas
 mod Opened
 mod PlaceLemmas
 mod Resumed
