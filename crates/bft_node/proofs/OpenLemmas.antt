@@ -1,5 +1,7 @@
 -- What an opening makes of a store.
-use Rattle.std.proofs.Common.{◌≡◌, ℕ, Ok, sym, ◌∙◌, ap, subst}
+use Rattle.std.proofs.Common.{◌≡◌, ◌≢◌, ℕ, false, Ok, sym, ◌∙◌, ap, subst, arith}
+use Rattle.std.specs.Ordering.{is_eq, nat_cmp}
+use Rattle.std.proofs.lemmas.Bool.Decides.{nat_tests}
 use Rattle.ord_types.specs.Genesis.{IsGenesisConfig, genesis_block}
 use Rattle.ord_types.specs.Grammar.{IsNumber}
 use Rattle.ord_types.specs.declared.values.Block.{Block}
@@ -51,3 +53,8 @@ pub state_moved : (r : Running) (c : Config) (me : ℕ) (store : Store) → r.st
     → state_of r ≡ opened c me (held_of r.store)
 state_moved r c me store is same state =
     subst (λ (s : Store). state_of r ≡ opened c me (held_of s)) (sym is) (subst (λ (k : Config). state_of r ≡ opened k me (held_of store)) same state)
+
+-- KEYS OF A MAP
+
+pub apart : (id other : ℕ) → other ≢ id → is_eq (nat_cmp id other) ≡ false
+apart id other not = grind (arith, nat_tests)

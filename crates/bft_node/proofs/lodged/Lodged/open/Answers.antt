@@ -1,3 +1,4 @@
+use Rattle.std.proofs.Common.{refl}
 use Rattle.bft_node.proofs.lodged.Lodged.open.Goals as goal
 
 pub returns-clause-opened : goal.returns-clause-opened
@@ -9,7 +10,7 @@ returns-clause-opened c =
       config = node.config;
       chain = node.chain;
       state = node.state;
-      value = node.value tt;
-      any_moment = c.open.ensures.any_moment tt;
-      kept = node.ready.kept tt;
+      value = node.value refl;
+      any_moment = c.open.ensures.any_moment refl;
+      kept = node.ready.kept refl;
     }
