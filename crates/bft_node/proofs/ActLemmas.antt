@@ -18,7 +18,8 @@ use Rattle.block_ledger.specs.Places.{place_after}
 use Rattle.node_model.specs.declared.act.Act.{Act}
 use Rattle.node_model.specs.declared.act.Act.TheVariants as act_of
 use Rattle.node_model.specs.Acts.{View}
-use Rattle.node_model.specs.Answers.{after_act, at_place, is_same_config}
+use Rattle.node_model.specs.declared.letter.Letter.{Letter}
+use Rattle.node_model.specs.Answers.{after_act, after_vote, at_place, is_new, is_same_config, kept_after, vote_answer}
 use Rattle.node_model.specs.Deeds.{Deed, Delivers, acceptance}
 use Rattle.node_model.specs.Cores.{next_place}
 use Rattle.node_model.specs.Steps as steps
@@ -35,7 +36,7 @@ use Rattle.bft_node.specs.declared.live.Running.{Running}
 use Rattle.bft_node.specs.declared.node_fault.NodeFault.{NodeFault}
 use Rattle.bft_node.specs.declared.store.Store.{Store}
 use Rattle.bft_node.proofs.PlaceLemmas.{delivered_place}
-use Rattle.bft_node.proofs.ViewLemmas.{StandsAt-at_place, me-at_place}
+use Rattle.bft_node.proofs.ViewLemmas.{StandsAt-after_act, StandsAt-at_place, StandsAt-kept_after, me-after_act, me-at_place, me-kept_after}
 use Rattle.bft_node.proofs.KeepingLemmas.{kept_done, kept_facts, kept_held, kept_left, kept_limit, kept_went, same_place}
 use Rattle.bft_node.proofs.MakingLemmas.{Extends, front_more, front_of}
 
@@ -175,6 +176,43 @@ number-at_place place w lt =
       | inr e ↦ rw e (omega arith)
       | inl e ↦ elim (cases_Bool (w.height == place.height)) [ inl h ↦ rw (e, h) lt | inr h ↦ rw (e, h) lt ]
     ]
+
+number-after_act : (act : Act) (w : View) → IsNumber w.view → IsNumber (after_act act w).view
+number-after_act (act_of.Accept b) w h = h
+number-after_act (act_of.Prepare d) w h = h
+number-after_act (act_of.Deliver b cert) w h = h
+number-after_act act_of.Kept w h = h
+number-after_act (act_of.Nothing r) w h = h
+
+number-kept_after : (accepts : Accepts) (place : Place) (w : View) (letter : Letter) → IsNumber w.view → IsNumber (kept_after accepts place w letter).view
+number-kept_after accepts place w letter h = elim (cases_Bool (is_new accepts place w letter)) [ inl e ↦ rw e h | inr e ↦ rw e h ]
+
+-- with another view of this member, at the place
+pub with_view : (r : Running) (v w : View) → IsSound r → v ≡ w → w.me ≡ r.view.me → StandsAt (place_of r) w → IsNumber w.view → IsSound (record r { view = v })
+with_view r v w s same me at number =
+    record {
+      me = ap (λ (x : View). x.me) same ∙ me ∙ s.me;
+      place = s.place;
+      at = subst (λ (x : View). StandsAt (place_of r) x) (sym same) at;
+      config = s.config;
+      view = subst (λ (x : View). IsNumber x.view) (sym same) number;
+    }
+
+-- at the place
+pub placed_sound : (r : Running) (v : View) (p : Place) → IsSound r → p ≡ place_of r → v ≡ at_place p r.view → IsSound (record r { view = v })
+placed_sound r v p s here is =
+    with_view r v (at_place (place_of r) r.view) s (is ∙ ap (λ (q : Place). at_place q r.view) here) (me-at_place (place_of r) r.view) (StandsAt-at_place (place_of r) r.view) (number-at_place (place_of r) r.view s.view)
+
+-- after a vote message
+pub voted_sound : (accepts : Accepts) (letter : Letter) (r : Running) (v : View) (p : Place) → IsSound r → p ≡ place_of r → v ≡ after_vote accepts p r.view letter → IsSound (record r { view = v })
+voted_sound accepts letter r v p s here is =
+    let place = place_of r in
+    let at = at_place place r.view in
+    let act = vote_answer accepts place at letter in
+    with_view r v (after_vote accepts place r.view letter) s (is ∙ ap (λ (q : Place). after_vote accepts q r.view letter) here)
+    (me-after_act act (kept_after accepts place at letter) ∙ me-kept_after accepts place at letter ∙ me-at_place place r.view)
+    (StandsAt-after_act place act (kept_after accepts place at letter) (StandsAt-kept_after accepts place at letter (StandsAt-at_place place r.view)))
+    (number-after_act act (kept_after accepts place at letter) (number-kept_after accepts place at letter (number-at_place place r.view s.view)))
 
 pub delivered_sound : (r new : Running) (v : View) (block : Block) (cert : Cert) → IsSound r → StandsStill r new → place_of new ≡ next_place (place_of r) block cert → IsPlace (place_of new) → v ≡ at_place (place_of new) new.view → IsSound (record new { view = v })
 delivered_sound r new v block cert s still moved stands view =
