@@ -7,6 +7,7 @@ mod Nexts
 mod OpenLemmas
 mod Opened
 mod PlaceLemmas
+mod RepeatLemmas
 mod Resumed
 mod RoundLemmas
 mod Running
