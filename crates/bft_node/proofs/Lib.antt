@@ -6,8 +6,10 @@ mod GoingOn
 mod KeepingLemmas
 mod MakingLemmas
 mod Nexts
+mod OpenLemmas
 mod Opened
 mod PlaceLemmas
+mod RepeatLemmas
 mod Resumed
 mod RoundLemmas
 mod Running
