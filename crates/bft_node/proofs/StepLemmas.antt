@@ -1,116 +1,27 @@
--- What keys sign in calls one after another, and what a step makes of an event.
-use Rattle.std.proofs.Common.{◌≡◌, ℕ, suc, zero, ◌≤◌, Bool, List, [], ◌∷◌, ◌++◌, map, length, take, Option, Some, None, Result, Ok, Err, IsErr, IsErrAnd, IsTrue, inl, inr, refl, sym, ap, subst, ◌∙◌, append_assoc}
-use Rattle.std.proofs.lemmas.List.{append-nil, map-append}
-use Rattle.ord_types.specs.declared.values.Cert.{Cert}
+-- What a step makes of an event, and what it answers and leaves.
+use Rattle.std.proofs.Common.{◌≡◌, ℕ, Bool, List, [], ◌∷◌, ◌++◌, map, length, Option, Some, None, Result, Ok, Err, IsErrAnd, IsTrue, refl, sym, ap, subst, ◌∙◌}
+use Rattle.std.proofs.lemmas.List.{append-nil}
 use Rattle.ord_types.specs.declared.values.Place.{Place}
 use Rattle.gate_log.specs.Disk.{State, now}
 use Rattle.safety_model.specs.Blocks.{Block, Request}
 use Rattle.signer_edge.specs.Accepts.{Accepts}
-use Rattle.signer_edge.specs.declared.signing.SignFault.{SignFault}
-use Rattle.ord_types.specs.declared.values.Sig.{Sig}
 use Rattle.node_model.specs.declared.act.Act.TheVariants as act_of
-use Rattle.node_model.specs.Acts.{View, acceptance_due, delivery_due, preparation_due, proposed}
+use Rattle.node_model.specs.Acts.{View, proposed}
 use Rattle.node_model.specs.Deeds.{Deed, unlogged}
 use Rattle.node_model.specs.Restarts.{Found, Returned, current, repeat_round, step}
 use Rattle.node_model.specs.Steps as steps
-use Rattle.node_model.specs.Steps.{FromMember, Keys, Tick, accept_round, begins, deliver_round, makes_delivered, makes_prepared, prepare_round, propose_round, rounds, votes}
+use Rattle.node_model.specs.Steps.{FromMember, Keys, Tick, begins, propose_round, rounds}
 use Rattle.bft_node.specs.Making.{Around, Before, Begins, GoesOn, IsMade, IsStopped, Makes, OpensMade, Step, around, node_returns, node_ways, place_in, sent_of, view_in}
 use Rattle.bft_node.specs.NodeFaults.{HasLimit}
 use Rattle.bft_node.specs.NodeSteps.{TakesStep, step_from}
 use Rattle.bft_node.specs.Running.{as_found, place_of, state_of}
-use Rattle.bft_node.specs.Signings.{AreGiven, EndsAt, Grows, KeysFit, Signing, Signs, keys_after, statements_in}
 use Rattle.bft_node.specs.Stores.{IsKept, config_of, held_of}
 use Rattle.bft_node.specs.declared.live.Out.{Out}
 use Rattle.bft_node.specs.declared.live.Running.{Running}
 use Rattle.bft_node.specs.declared.node_fault.NodeFault.{NodeFault}
-use Rattle.bft_node.proofs.ActLemmas.{extends_accepted, extends_delivered}
 use Rattle.bft_node.proofs.EventLemmas.{begun, extends_proposes, proposes}
-use Rattle.bft_node.proofs.MakingLemmas.{Extends, extends_same, extends_then, front_more, kept_opens, made_whole}
-
--- SIGNINGS ONE AFTER ANOTHER
-
-module _ {K : Type 0} where
-  pub statements-append : (xs ys : List (Signing K)) → statements_in (xs ++ ys) ≡ statements_in xs ++ statements_in ys
-  statements-append xs ys = map-append (λ (s : Signing K). s.statement) xs ys
-
-  pub keys_after-append : (k : K) (xs ys : List (Signing K)) → keys_after k (xs ++ ys) ≡ keys_after (keys_after k xs) ys
-  keys_after-append k [] ys = refl
-  keys_after-append k (x ∷ xs) ys = keys_after-append x.keys xs ys
-
-  given-append : (gives : K → List ℕ → Result Sig SignFault → K → Type 0) (k : K) (xs ys : List (Signing K)) → AreGiven gives k xs → AreGiven gives (keys_after k xs) ys → AreGiven gives k (xs ++ ys)
-  given-append gives k [] ys first rest = rest
-  given-append gives k (x ∷ xs) ys first rest = (first.0, given-append gives x.keys xs ys first.1 rest)
-
-  pub fits_now : (accepts : K → Accepts) (keys : Keys) (before : List (List ℕ)) (k : K) (xs : List (Signing K)) → KeysFit accepts keys before k xs → keys.accepts before ≡ accepts k
-  fits_now accepts keys before k [] fit = fit
-  fits_now accepts keys before k (x ∷ xs) fit = fit.0
-
-  pub fits_first : (accepts : K → Accepts) (keys : Keys) (before : List (List ℕ)) (k : K) (xs ys : List (Signing K)) → KeysFit accepts keys before k (xs ++ ys) → KeysFit accepts keys before k xs
-  fits_first accepts keys before k [] ys fit = fits_now accepts keys before k ys fit
-  fits_first accepts keys before k (x ∷ xs) ys fit = (fit.0, fit.1, fits_first accepts keys (before ++ x.statement ∷ []) x.keys xs ys fit.2)
-
-  pub fits_rest : (accepts : K → Accepts) (keys : Keys) (before : List (List ℕ)) (k : K) (xs ys : List (Signing K)) → KeysFit accepts keys before k (xs ++ ys) → KeysFit accepts keys (before ++ statements_in xs) (keys_after k xs) ys
-  fits_rest accepts keys before k [] ys fit = subst (λ (l : List (List ℕ)). KeysFit accepts keys l k ys) (sym (append-nil before)) fit
-  fits_rest accepts keys before k (x ∷ xs) ys fit =
-      subst (λ (l : List (List ℕ)). KeysFit accepts keys l (keys_after x.keys xs) ys) (append_assoc before (x.statement ∷ []) (statements_in xs))
-      (fits_rest accepts keys (before ++ x.statement ∷ []) x.keys xs ys fit.2)
-
-  pub grows_first : (accepts : K → Accepts) (k : K) (xs ys : List (Signing K)) → Grows accepts k (xs ++ ys) → Grows accepts k xs
-  grows_first accepts k [] ys grows = tt
-  grows_first accepts k (x ∷ xs) ys grows = (grows.0, grows_first accepts x.keys xs ys grows.1)
-
-  pub grows_rest : (accepts : K → Accepts) (k : K) (xs ys : List (Signing K)) → Grows accepts k (xs ++ ys) → Grows accepts (keys_after k xs) ys
-  grows_rest accepts k [] ys grows = grows
-  grows_rest accepts k (x ∷ xs) ys grows = grows_rest accepts x.keys xs ys grows.1
-
--- where a call that was done ends
-ends_ok : {K T E : Type 0} (gives : K → List ℕ → Result Sig SignFault → K → Type 0) (x : T) (r : Result T E) (k new : K) → r ≡ Ok x → EndsAt gives r k new → new ≡ k
-ends_ok gives x (Ok y) k new is e = e
-ends_ok gives x (Err y) k new is e = cc
-
-ended : {K T E : Type 0} {gives : K → List ℕ → Result Sig SignFault → K → Type 0} (x : T) (r : Result T E) (old new : K) (P : List (Signing K) → Type 0) → r ≡ Ok x → (s : Signs gives r old new P) → new ≡ keys_after old s.signings
-ended {gives = gives} x r old new P is s = ends_ok gives x r (keys_after old s.signings) new is s.after
-
-module _ {K T E : Type 0} (gives : K → List ℕ → Result Sig SignFault → K → Type 0) where
-  ends : (r : Result T E) (k new : K) → new ≡ k → EndsAt gives r k new
-  ends (Ok x) k new e = e
-  ends (Err fault) k new e = inl e
-
-  failed : {S F : Type 0} (q : Result S F) (fault : F) (r : Result T E) (k new : K) → q ≡ Err fault → IsErr r → EndsAt gives q k new → EndsAt gives r k new
-  failed (Ok x) fault r k new is h e = cc
-  failed (Err y) fault (Ok x) k new is h e = cc
-  failed (Err y) fault (Err z) k new is h e = e
-
-  -- a call that signed nothing
-  pub signs_nothing : (r : Result T E) (k : K) (P : List (Signing K) → Type 0) → P [] → Signs gives r k k P
-  signs_nothing r k P p = record { signings = []; given = tt; after = ends r k k refl; what = p }
-
-  -- after which nothing more was signed
-  pub signs_no_more : {S F : Type 0} (x : S) (q : Result S F) (r : Result T E) (old new : K) (P R : List (Signing K) → Type 0) → q ≡ Ok x → ((xs : List (Signing K)) → new ≡ keys_after old xs → P xs → R xs) → Signs gives q old new P → Signs gives r old new R
-  signs_no_more x q r old new P R is f s =
-      let at = ended x q old new P is s in
-      record { signings = s.signings; given = s.given; after = ends r (keys_after old s.signings) new at; what = f s.signings at s.what }
-
-  -- that was given up
-  pub signs_failed : {S F : Type 0} (fault : F) (q : Result S F) (r : Result T E) (old new : K) (P R : List (Signing K) → Type 0) → q ≡ Err fault → IsErr r → ((xs : List (Signing K)) → P xs → R xs) → Signs gives q old new P → Signs gives r old new R
-  signs_failed fault q r old new P R is h f s =
-      record { signings = s.signings; given = s.given; after = failed q fault r (keys_after old s.signings) new is h s.after; what = f s.signings s.what }
-
-  -- and another one
-  pub signs_then : {S F : Type 0} (x : S) (q : Result S F) (r : Result T E) (old mid new : K) (P Q R : List (Signing K) → Type 0) → q ≡ Ok x
-      → ((xs ys : List (Signing K)) → mid ≡ keys_after old xs → P xs → Q ys → R (xs ++ ys)) → Signs gives q old mid P → Signs gives r mid new Q → Signs gives r old new R
-  signs_then x q r old mid new P Q R is f one two =
-      let at = ended x q old mid P is one in
-      record {
-        signings = one.signings ++ two.signings;
-        given = given-append gives old one.signings two.signings one.given (subst (λ (k : K). AreGiven gives k two.signings) at two.given);
-        after = subst (λ (k : K). EndsAt gives r k new)
-            (ap (λ (k : K). keys_after k two.signings) at ∙ sym (keys_after-append old one.signings two.signings)) two.after;
-        what = f one.signings two.signings at one.what two.what;
-      }
-
-pub signs_with : {K T E : Type 0} (gives : K → List ℕ → Result Sig SignFault → K → Type 0) (r : Result T E) (old new : K) (P R : List (Signing K) → Type 0) → ((xs : List (Signing K)) → P xs → R xs) → Signs gives r old new P → Signs gives r old new R
-signs_with gives r old new P R f s = record { signings = s.signings; given = s.given; after = s.after; what = f s.signings s.what }
+use Rattle.bft_node.proofs.MakingLemmas.{Extends, extends_then, kept_opens, made_whole}
+use Rattle.bft_node.proofs.RoundLemmas.{extends_rounds}
 
 -- THE STEP OF THE DEFINITION, from where a node stands
 
@@ -162,30 +73,6 @@ pub stopped_by : (b : Before) (m : Step) (signed : List (List ℕ)) (accepts : A
 stopped_by b m signed accepts tells moments one two is h = subst (IsStopped b m signed accepts tells moments) (sym is) h
 
 -- WHAT IS DUE IS MADE FURTHER
-
-extends_accept_round : (m : Step) (o : Option Block) → Extends m (accept_round node_ways o m)
-extends_accept_round m None = extends_same m
-extends_accept_round m (Some block) = extends_accepted m block []
-
-extends_prepare_round : (keys : Keys) (m : Step) (o : Option (List ℕ)) → Extends m (prepare_round node_ways keys o m)
-extends_prepare_round keys m None = extends_same m
-extends_prepare_round keys m (Some digest) = record { deeds = front_more m.state.deeds _; signed = front_more m.signed _; rests = refl }
-
-extends_votes : (keys : Keys) (m : Step) → Extends m (votes node_ways keys m)
-extends_votes keys m =
-    let accepted : Step = accept_round node_ways (acceptance_due (keys.accepts m.signed) (place_in m) (view_in m)) m in
-    extends_then m accepted (votes node_ways keys m) (extends_accept_round m (acceptance_due (keys.accepts m.signed) (place_in m) (view_in m)))
-    (extends_prepare_round keys accepted (preparation_due (place_in accepted) (view_in accepted)))
-
-extends_deliver_round : (m : Step) (o : Option (Block × Cert)) (rest : Step → Step) → ((x : Step) → Extends x (rest x)) → Extends m (deliver_round node_ways o m rest)
-extends_deliver_round m None rest more = extends_same m
-extends_deliver_round m (Some d) rest more = extends_then m (makes_delivered node_ways d.0 d.1 m) (rest (makes_delivered node_ways d.0 d.1 m)) (extends_delivered m d.0 d.1) (more (makes_delivered node_ways d.0 d.1 m))
-
-pub extends_rounds : (keys : Keys) (n : ℕ) (m : Step) → Extends m (rounds node_ways keys n m)
-extends_rounds keys zero m = extends_same m
-extends_rounds keys (suc n) m =
-    let voted : Step = votes node_ways keys m in
-    extends_then m voted (rounds node_ways keys (suc n) m) (extends_votes keys m) (extends_deliver_round voted (delivery_due (place_in voted) (view_in voted)) (λ x. rounds node_ways keys n x) (λ x. extends_rounds keys n x))
 
 pub extends_tick : (b : Before) (m : Step) (offer : List Request) → Extends m (rounds node_ways b.keys 2 (proposes b m offer))
 extends_tick b m offer = extends_then m (proposes b m offer) (rounds node_ways b.keys 2 (proposes b m offer)) (extends_proposes b m offer) (extends_rounds b.keys 2 (proposes b m offer))

@@ -4,7 +4,8 @@ use Rattle.node_model.specs.Restarts.{step}
 use Rattle.node_model.specs.Steps.{FromMember}
 use Rattle.bft_node.specs.Making.{node_returns}
 use Rattle.bft_node.specs.Running.{event_of, state_of}
-use Rattle.bft_node.proofs.StepLemmas.{ends_as, signs_with}
+use Rattle.bft_node.proofs.SigningLemmas.{signs_with}
+use Rattle.bft_node.proofs.StepLemmas.{ends_as}
 use Rattle.bft_node.proofs.live.Running.step.Goals as goal
 
 pub returns-in-Tick-clause-makes : goal.returns-in-Tick-clause-makes

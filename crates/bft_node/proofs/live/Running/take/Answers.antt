@@ -3,7 +3,9 @@ use Rattle.node_model.specs.declared.act.Act.TheVariants as act_of
 use Rattle.node_model.specs.Steps.{FromMember}
 use Rattle.bft_node.proofs.EventLemmas.{message_begun, no_memory, with_view}
 use Rattle.bft_node.proofs.MakingLemmas.{given_up, stopped}
-use Rattle.bft_node.proofs.StepLemmas.{ends_as, extends_rounds, message_step, signs_nothing, signs_with, started, stopped_as}
+use Rattle.bft_node.proofs.RoundLemmas.{extends_rounds}
+use Rattle.bft_node.proofs.SigningLemmas.{signs_nothing, signs_with}
+use Rattle.bft_node.proofs.StepLemmas.{ends_as, message_step, started, stopped_as}
 use Rattle.bft_node.proofs.live.Running.take.Goals as goal
 
 pub returns-in_err-told-clause-makes : goal.returns-in_err-told-clause-makes

@@ -5,7 +5,9 @@ use Rattle.bft_node.specs.Making.{node_ways}
 use Rattle.bft_node.specs.Signings.{Grows, KeysFit, keys_after, statements_in}
 use Rattle.bft_node.proofs.EventLemmas.{no_memory, proposes}
 use Rattle.bft_node.proofs.MakingLemmas.{given_up, stopped, stopped_more}
-use Rattle.bft_node.proofs.StepLemmas.{ends_as, extends_rounds, extends_tick, fits_first, fits_rest, grows_first, grows_rest, keys_after-append, proposes_signed, repeated, signs_failed, signs_no_more, signs_then, started, statements-append, stopped_as, stopped_by, tick_begun, tick_step}
+use Rattle.bft_node.proofs.RoundLemmas.{extends_rounds}
+use Rattle.bft_node.proofs.SigningLemmas.{fits_first, fits_rest, grows_first, grows_rest, keys_after-append, signs_failed, signs_no_more, signs_then, statements-append}
+use Rattle.bft_node.proofs.StepLemmas.{ends_as, extends_tick, proposes_signed, repeated, started, stopped_as, stopped_by, tick_begun, tick_step}
 use Rattle.bft_node.proofs.live.Running.tick.Goals as goal
 
 pub returns-in_err-repeat-clause-makes : goal.returns-in_err-repeat-clause-makes

@@ -1,5 +1,6 @@
 use Rattle.std.proofs.Common.{[], ap, refl}
-use Rattle.bft_node.proofs.StepLemmas.{before_of, begins_so, fits_now, signs_failed, signs_no_more, takes_as, takes_err, takes_ok}
+use Rattle.bft_node.proofs.SigningLemmas.{fits_now, signs_failed, signs_no_more}
+use Rattle.bft_node.proofs.StepLemmas.{before_of, begins_so, takes_as, takes_err, takes_ok}
 use Rattle.bft_node.proofs.member.Node.step.Goals as goal
 
 pub returns-in_err-step-clause-step : goal.returns-in_err-step-clause-step
