@@ -310,3 +310,6 @@ tells_more b m told r accepts t u moments out same h = record { makes = makes_te
 
 pub stopped_tells : (b : Before) (m : Step) (signed : List (List ℕ)) (accepts : Accepts) (t u : Bool) (moments : List State) (fault : NodeFault) → u ≡ t → IsStopped b m signed accepts t moments fault → IsStopped b m signed accepts u moments fault
 stopped_tells b m signed accepts t u moments fault same s = subst (λ (v : Bool). IsStopped b m signed accepts v moments fault) (sym same) s
+
+pub stopped_fault : (b : Before) (m : Step) (signed : List (List ℕ)) (accepts : Accepts) (tells : Bool) (moments : List State) (one fault : NodeFault) → fault ≡ one → IsStopped b m signed accepts tells moments one → IsStopped b m signed accepts tells moments fault
+stopped_fault b m signed accepts tells moments one fault same s = subst (λ (e : NodeFault). IsStopped b m signed accepts tells moments e) (sym same) s
