@@ -300,3 +300,8 @@ pub round-ends : (b : Before) (m : Step) (next : Act) (block : Block) (cert : Ce
 round-ends b m next block cert node outside signed e d made s =
     let same = round-some b m next block cert e d in
     (subst (λ (x : Step). Makes b x act_of.Kept node outside) (sym same) made, ap (λ (x : Step). x.signed) same ∙ s, round-delivers b m next block cert e d)
+
+-- by another name
+pub rounds-made : (b : Before) (m n : Step) (node : Running) (outside : Around) (signed : List (List ℕ)) → rounds node_ways b.keys 2 m ≡ n → Makes b n act_of.Kept node outside → n.signed ≡ signed
+    → Makes b (rounds node_ways b.keys 2 m) act_of.Kept node outside × ((rounds node_ways b.keys 2 m).signed ≡ signed)
+rounds-made b m n node outside signed same made s = (subst (λ (x : Step). Makes b x act_of.Kept node outside) (sym same) made, ap (λ (x : Step). x.signed) same ∙ s)
