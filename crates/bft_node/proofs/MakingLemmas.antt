@@ -310,3 +310,15 @@ tells_more b m told r accepts t u moments out same h = record { makes = makes_te
 
 pub stopped_tells : (b : Before) (m : Step) (signed : List (List ℕ)) (accepts : Accepts) (t u : Bool) (moments : List State) (fault : NodeFault) → u ≡ t → IsStopped b m signed accepts t moments fault → IsStopped b m signed accepts u moments fault
 stopped_tells b m signed accepts t u moments fault same s = subst (λ (v : Bool). IsStopped b m signed accepts v moments fault) (sym same) s
+
+pub stopped_fault : (b : Before) (m : Step) (signed : List (List ℕ)) (accepts : Accepts) (tells : Bool) (moments : List State) (one fault : NodeFault) → fault ≡ one → IsStopped b m signed accepts tells moments one → IsStopped b m signed accepts tells moments fault
+stopped_fault b m signed accepts tells moments one fault same s = subst (λ (e : NodeFault). IsStopped b m signed accepts tells moments e) (sym same) s
+
+-- what was given up by other names
+pub stopped_by : (b : Before) (m n : Step) (signed all : List (List ℕ)) (old new : Accepts) (t u : Bool) (moments : List State) (one fault : NodeFault) → n ≡ m → all ≡ signed → new ≡ old → u ≡ t → fault ≡ one
+    → IsStopped b m signed old t moments one → IsStopped b n all new u moments fault
+stopped_by b m n signed all old new t u moments one fault step statements accepts tells same s =
+    subst (λ (x : Step). IsStopped b x all new u moments fault) (sym step)
+    (subst (λ (l : List (List ℕ)). IsStopped b m l new u moments fault) (sym statements)
+    (subst (λ (a : Accepts). IsStopped b m signed a u moments fault) (sym accepts)
+    (subst (λ (v : Bool). IsStopped b m signed old v moments fault) (sym tells) (stopped_fault b m signed old t moments one fault same s))))

@@ -291,3 +291,17 @@ pub rounds-two : (b : Before) (m : Step) → is_delivering b m ≡ true → roun
 rounds-two b m e =
     let voted : Step = votes node_ways b.keys m in
     second-some b.keys voted (delivery_of voted) e
+
+-- WHAT A ROUND LEAVES
+
+pub round-ends : (b : Before) (m : Step) (next : Act) (block : Block) (cert : Cert) (node : Running) (outside : Around) (signed : List (List ℕ)) → next ≡ act_of.Deliver block cert → IsDelivery (votes node_ways b.keys m) next
+    → Makes b (makes_delivered node_ways block cert (votes node_ways b.keys m)) act_of.Kept node outside → (votes node_ways b.keys m).signed ≡ signed
+    → Makes b (rounds node_ways b.keys 1 m) act_of.Kept node outside × ((rounds node_ways b.keys 1 m).signed ≡ signed) × (true ≡ is_delivering b m)
+round-ends b m next block cert node outside signed e d made s =
+    let same = round-some b m next block cert e d in
+    (subst (λ (x : Step). Makes b x act_of.Kept node outside) (sym same) made, ap (λ (x : Step). x.signed) same ∙ s, round-delivers b m next block cert e d)
+
+-- by another name
+pub rounds-made : (b : Before) (m n : Step) (node : Running) (outside : Around) (signed : List (List ℕ)) → rounds node_ways b.keys 2 m ≡ n → Makes b n act_of.Kept node outside → n.signed ≡ signed
+    → Makes b (rounds node_ways b.keys 2 m) act_of.Kept node outside × ((rounds node_ways b.keys 2 m).signed ≡ signed)
+rounds-made b m n node outside signed same made s = (subst (λ (x : Step). Makes b x act_of.Kept node outside) (sym same) made, ap (λ (x : Step). x.signed) same ∙ s)

@@ -90,3 +90,22 @@ module _ {K T E : Type 0} (gives : K → List ℕ → Result Sig SignFault → K
 
 pub signs_with : {K T E : Type 0} (gives : K → List ℕ → Result Sig SignFault → K → Type 0) (r : Result T E) (old new : K) (P R : List (Signing K) → Type 0) → ((xs : List (Signing K)) → P xs → R xs) → Signs gives r old new P → Signs gives r old new R
 signs_with gives r old new P R f s = record { signings = s.signings; given = s.given; after = s.after; what = f s.signings s.what }
+
+-- WHAT A SECOND CALL SIGNED, where the first one signed these
+
+module _ {K : Type 0} (accepts : K → Accepts) (keys : Keys) (before signed : List (List ℕ)) (old mid : K) (xs ys : List (Signing K)) (at : mid ≡ keys_after old xs) (first : signed ≡ before ++ statements_in xs) where
+  pub second_fits : KeysFit accepts keys before old (xs ++ ys) → KeysFit accepts keys signed mid ys
+  second_fits fit =
+      subst (λ (k : K). KeysFit accepts keys signed k ys) (sym at)
+      (subst (λ (l : List (List ℕ)). KeysFit accepts keys l (keys_after old xs) ys) (sym first) (fits_rest accepts keys before old xs ys fit))
+
+  pub second_grows : Grows accepts old (xs ++ ys) → Grows accepts mid ys
+  second_grows grows = subst (λ (k : K). Grows accepts k ys) (sym at) (grows_rest accepts old xs ys grows)
+
+  pub second_statements : before ++ statements_in (xs ++ ys) ≡ signed ++ statements_in ys
+  second_statements =
+      ap (λ (l : List (List ℕ)). before ++ l) (statements-append xs ys) ∙ sym (append_assoc before (statements_in xs) (statements_in ys))
+      ∙ ap (λ (l : List (List ℕ)). l ++ statements_in ys) (sym first)
+
+  pub second_accepts : accepts (keys_after old (xs ++ ys)) ≡ accepts (keys_after mid ys)
+  second_accepts = ap accepts (keys_after-append old xs ys ∙ ap (λ (k : K). keys_after k ys) (sym at))
