@@ -1,5 +1,5 @@
 -- What is sent again at the first tick after an opening.
-use Rattle.std.proofs.Common.{◌≡◌, ℕ, Bool, true, false, List, [], ◌∷◌, ◌++◌, length, map, Option, Some, None, Result, Ok, Err, IsErrAnd, IsTrue, inl, refl, sym, ap, subst, ◌∙◌, append_assoc}
+use Rattle.std.proofs.Common.{◌≡◌, ℕ, Bool, true, false, List, [], ◌∷◌, ◌++◌, length, map, Option, Some, None, Result, Ok, Err, IsErrAnd, inl, refl, sym, ap, subst, ◌∙◌, append_assoc}
 use Rattle.std.specs.List.{flat_map}
 use Rattle.std.specs.Prelude.{if◌then◌else◌}
 use Rattle.std.proofs.lemmas.List.{append-nil}
@@ -12,9 +12,8 @@ use Rattle.signer_edge.specs.Accepts.{Accepts}
 use Rattle.signer_edge.specs.Signing.{KeepsAccepted}
 use Rattle.signer_edge.specs.Statements.{commit_text}
 use Rattle.signer_edge.specs.declared.signing.SignFault.{SignFault}
-use Rattle.bft_wire.specs.declared.message.Message.{Message}
 use Rattle.bft_wire.specs.declared.message.Message.TheVariants as wire
-use Rattle.block_ledger.specs.Chains.{Entry, IsChain}
+use Rattle.block_ledger.specs.Chains.{IsChain}
 use Rattle.block_ledger.specs.Places.{place_after}
 use Rattle.block_ledger.proofs.Linking.{chain_stays}
 use Rattle.node_model.specs.declared.act.Act.{Act}
@@ -29,10 +28,10 @@ use Rattle.node_model.specs.Steps as steps
 use Rattle.node_model.specs.Steps.{commit_message, to_all}
 use Rattle.view_core.specs.Places.{StandsAt}
 use Rattle.bft_node.specs.Commits.{Commits, SignsAtMost, commit_at, own_letter, statement_at}
-use Rattle.bft_node.specs.Making.{Around, Before, GoesOn, IsFront, IsMade, IsStopped, Makes, Sent, Step, around, node_returns, node_ways, place_in, sent_of, text_of, view_in}
+use Rattle.bft_node.specs.Making.{Around, Before, GoesOn, IsFront, IsMade, IsStopped, Makes, Step, around, node_returns, node_ways, place_in, sent_of, text_of, view_in}
 use Rattle.bft_node.specs.NodeFaults.{IsNoLimit}
-use Rattle.bft_node.specs.Running.{IsReady, IsSound, as_found, place_of}
-use Rattle.bft_node.specs.Signings.{AreGiven, EndsAt, Grows, KeysFit, Signing, Signs, keys_after, statements_in}
+use Rattle.bft_node.specs.Running.{IsReady, as_found, place_of}
+use Rattle.bft_node.specs.Signings.{EndsAt, Grows, KeysFit, Signing, Signs, keys_after, statements_in}
 use Rattle.bft_node.specs.Stores.{config_of, held_of}
 use Rattle.bft_node.specs.declared.live.Found.{Found as Kept}
 use Rattle.bft_node.specs.declared.live.Out.{Out}
@@ -72,8 +71,8 @@ pub stopped_before : (b : Before) (m n : Step) (r : Running) (a : Around) (signe
     → KeepsAccepted a.accepts accepts → Makes b m act_of.Kept r a → IsFront signed n.signed → IsNoLimit fault → IsStopped b n signed accepts a.tells a.moments fault
 stopped_before b m n r a signed accepts fault ready none same keeps h first no_limit =
     let made : IsMade (length m.state.deeds) n.state.deeds n.signed signed =
-        subst (λ (ds : List Deed). IsMade (length m.state.deeds) ds n.signed signed) (sym (same ∙ none))
-        (subst (λ (ds : List Deed). IsMade (length ds) [] n.signed signed) (sym none) (made_before n.signed signed first)) in
+    subst (λ (ds : List Deed). IsMade (length m.state.deeds) ds n.signed signed) (sym (same ∙ none))
+    (subst (λ (ds : List Deed). IsMade (length ds) [] n.signed signed) (sym none) (made_before n.signed signed first)) in
     stopped_with b m n act_of.Kept r a signed accepts fault (subst (λ (ds : List Deed). IsFront m.state.deeds ds) (sym same) (front_of m.state.deeds)) h ready.kept keeps made no_limit
 
 -- THE COMMIT
@@ -205,7 +204,7 @@ module _ (b : Before) (m : Step) (old : Running) (accepts : Accepts) (tells : Bo
       → IsStopped b (repeat_round node_returns b.keys o m) (m.signed ++ []) accepts tells moments fault
   round_stopped o ready none fault no_limit =
       let first : IsFront (m.signed ++ []) (repeat_round node_returns b.keys o m).signed =
-          subst (λ l. IsFront l (repeat_round node_returns b.keys o m).signed) (sym (append-nil m.signed)) (round_first b.keys o m) in
+      subst (λ l. IsFront l (repeat_round node_returns b.keys o m).signed) (sym (append-nil m.signed)) (round_first b.keys o m) in
       stopped_before b m (repeat_round node_returns b.keys o m) old (around accepts tells moments before) (m.signed ++ []) accepts fault ready none (round_deeds b.keys o m) (λ statement sig e. e) h first no_limit
 
   module _ (f : Found) where
@@ -232,9 +231,9 @@ module _ (b : Before) (m : Step) (old : Running) (accepts : Accepts) (tells : Bo
         → Makes b (repeats_votes node_ways f.block m) act_of.Kept old (around accepts tells moments after)
     votes_repeated after facts done sends =
         let posts : flat_map (to_all (place_of old).config.members old.id) (repeated_votes (place_of old) old.view f.block) ≡ flat_map (to_all (place_in m).config.members (view_in m).me) (repeated_votes (place_in m) (view_in m) f.block) =
-            ap (λ (p : Place). flat_map (to_all p.config.members old.id) (repeated_votes p old.view f.block)) h.place
-            ∙ ap (λ i. flat_map (to_all (place_in m).config.members i) (repeated_votes (place_in m) old.view f.block)) (h.id ∙ sym h.me)
-            ∙ ap (λ (w : View). flat_map (to_all (place_in m).config.members (view_in m).me) (repeated_votes (place_in m) w f.block)) h.view in
+        ap (λ (p : Place). flat_map (to_all p.config.members old.id) (repeated_votes p old.view f.block)) h.place
+        ∙ ap (λ i. flat_map (to_all (place_in m).config.members i) (repeated_votes (place_in m) old.view f.block)) (h.id ∙ sym h.me)
+        ∙ ap (λ (w : View). flat_map (to_all (place_in m).config.members (view_in m).me) (repeated_votes (place_in m) w f.block)) h.view in
         record {
           id = h.id;
           config = h.config;

@@ -1,4 +1,4 @@
-use Rattle.std.proofs.Common.{Some, refl, ap, sym, ◌∙◌}
+use Rattle.std.proofs.Common.{Some, ap, sym, ◌∙◌}
 use Rattle.std.proofs.lemmas.Result.{IfOk-weaker}
 use Rattle.node_model.specs.declared.letter.VoteMessage.TheVariants as vote_of
 use Rattle.node_model.specs.Letters.{vote_in}

@@ -1,4 +1,4 @@
-use Rattle.std.proofs.Common.{[], false, true, ◌++◌, ◌∙◌, ap, inl, refl, subst, sym}
+use Rattle.std.proofs.Common.{[], false, true, ◌∙◌, ap, inl, refl, subst, sym}
 use Rattle.std.proofs.lemmas.List.{append-nil}
 use Rattle.node_model.specs.declared.act.Act.TheVariants as act_of
 use Rattle.node_model.specs.Restarts.{Found, repeats_commit, repeats_votes}
@@ -43,12 +43,12 @@ pub returns-then-found-clause-makes : goal.returns-then-found-clause-makes
 returns-then-found-clause-makes g c =
     signs_to g.K.Signer.sign_gives c.repeat_commit.result _ _ _ _ c.repeat_commit.ensures.makes
     (λ signings made tells moments b m ready none fit grows h.
-      let f : Found = record { config = c.args.found.now.config; view = c.args.found.now.view; height = c.args.found.now.height; block = c.args.found.now.block; is_prepared = c.args.found.now.is_prepared } in
-      let is = round_is b m c.args.self.now _ tells moments c.args.out.now h f (sym c.if-not-is_current.false ∙ c.is_current.ensures f refl) true c.if-found.true in
-      goes_as b c.repeat_commit.result c.repeat_commit.new.self _ _ _ tells moments _ _
-      (ap (λ d. repeats_commit node_returns b.keys d (repeats_votes node_ways f.block m)) c.block_hash.ensures ∙ is)
-      (made tells moments b (repeats_votes node_ways f.block m) ready none fit grows
-        (votes_repeated b m c.args.self.now _ tells moments c.args.out.now h f c.repeat_votes.new.out c.repeat_votes.ensures.facts c.repeat_votes.ensures.done c.in_ok-repeat_votes.ensures.sent)))
+    let f : Found = record { config = c.args.found.now.config; view = c.args.found.now.view; height = c.args.found.now.height; block = c.args.found.now.block; is_prepared = c.args.found.now.is_prepared } in
+    let is = round_is b m c.args.self.now _ tells moments c.args.out.now h f (sym c.if-not-is_current.false ∙ c.is_current.ensures f refl) true c.if-found.true in
+    goes_as b c.repeat_commit.result c.repeat_commit.new.self _ _ _ tells moments _ _
+    (ap (λ d. repeats_commit node_returns b.keys d (repeats_votes node_ways f.block m)) c.block_hash.ensures ∙ is)
+    (made tells moments b (repeats_votes node_ways f.block m) ready none fit grows
+    (votes_repeated b m c.args.self.now _ tells moments c.args.out.now h f c.repeat_votes.new.out c.repeat_votes.ensures.facts c.repeat_votes.ensures.done c.in_ok-repeat_votes.ensures.sent)))
 
 pub returns-clause-makes : goal.returns-clause-makes
 returns-clause-makes g c =
