@@ -1,17 +1,17 @@
 -- What comes to a node, and the step of the definition that begins with it.
-use Rattle.std.proofs.Common.{◌≡◌, ℕ, Bool, true, false, ◌==◌, List, [], ◌∷◌, map, Option, Some, None, option_map, option_and_then, Result, Ok, Err, IfOk, OnOk, OnErr, IsTrue, inl, inr, refl, sym, ap, subst, ◌∙◌}
+use Rattle.std.proofs.Common.{◌≡◌, ℕ, Bool, ◌==◌, List, [], ◌∷◌, Option, Some, None, option_map, option_and_then, Result, Ok, Err, OnOk, OnErr, inl, inr, refl, sym, ap, subst, ◌∙◌}
 use Rattle.std.proofs.lemmas.Bool.{cases_Bool, eq-eqb, ne_eqb}
 use Rattle.ord_types.specs.Grammar.{IsNumber}
 use Rattle.ord_types.specs.declared.values.Block.{Block}
 use Rattle.ord_types.specs.declared.values.Place.{Place}
-use Rattle.gate_log.specs.Disk.{State, now}
+use Rattle.gate_log.specs.Disk.{State}
 use Rattle.signer_edge.specs.Accepts.{Accepts}
 use Rattle.safety_model.specs.Blocks.{Request}
 use Rattle.bft_wire.specs.declared.reason.Reason.{Reason}
 use Rattle.bft_wire.specs.Reading.{message_in}
 use Rattle.bft_wire.specs.declared.message.Message.{Message}
 use Rattle.bft_wire.specs.declared.message.Message.TheVariants as wire
-use Rattle.block_ledger.specs.Chains.{Entry, IsChain}
+use Rattle.block_ledger.specs.Chains.{IsChain}
 use Rattle.block_ledger.specs.Places.{place_after}
 use Rattle.node_model.specs.declared.act.Act.{Act}
 use Rattle.node_model.specs.declared.act.Act.TheVariants as act_of
@@ -31,7 +31,7 @@ use Rattle.bft_node.specs.Held.{Held}
 use Rattle.bft_node.specs.Making.{Around, Before, Begins, Makes, Step, Tells, act_in, node_ways, place_in, view_in}
 use Rattle.bft_node.specs.NodeFaults.{IsNoLimit}
 use Rattle.bft_node.specs.Running.{IsReady, IsSound, as_found, place_of, state_of}
-use Rattle.bft_node.specs.Stores.{IsKept, config_of, held_of}
+use Rattle.bft_node.specs.Stores.{config_of, held_of}
 use Rattle.bft_node.specs.declared.live.Running.{Running}
 use Rattle.bft_node.specs.declared.node_fault.NodeFault.{NodeFault}
 use Rattle.bft_node.specs.declared.node_fault.NodeFault.TheVariants as node_of
