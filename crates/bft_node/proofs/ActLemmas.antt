@@ -1,5 +1,5 @@
 -- What an act of a node adds to the step so far.
-use Rattle.std.proofs.Common.{◌≡◌, ℕ, Bool, List, [], ◌∷◌, ◌++◌, map, ◌==◌, IsTrue, inl, inr, arith, refl, sym, ap, subst, ◌∙◌, append_assoc}
+use Rattle.std.proofs.Common.{◌≡◌, ℕ, Bool, List, [], ◌∷◌, ◌++◌, map, ◌==◌, IsTrue, inl, inr, arith, refl, sym, ap, subst, ◌∙◌}
 use Rattle.std.specs.List.{flat_map}
 use Rattle.std.proofs.lemmas.Bool.{cases_Bool}
 use Rattle.ord_types.specs.Grammar.{IsNumber}
@@ -10,7 +10,6 @@ use Rattle.ord_types.specs.declared.values.Cert.{Cert}
 use Rattle.ord_types.specs.declared.values.Config.{Config}
 use Rattle.ord_types.specs.declared.values.Place.{Place}
 use Rattle.gate_log.specs.Disk.{State, now}
-use Rattle.safety_model.specs.declared.fact.Fact.{Fact}
 use Rattle.signer_edge.specs.Accepts.{Accepts}
 use Rattle.bft_wire.specs.declared.message.Message.{Message}
 use Rattle.block_ledger.specs.Chains.{Entry, IsChain}
@@ -26,11 +25,10 @@ use Rattle.node_model.specs.Steps as steps
 use Rattle.node_model.specs.Steps.{makes_accepted, makes_delivered, prepare_message, preprepare_message, to_all}
 use Rattle.bft_node.specs.Held.{Held}
 use Rattle.bft_node.specs.Keeping.{Keeps, KeepsWithin, StandsStill}
-use Rattle.bft_node.specs.Making.{Around, Before, GoesWithin, IsStopped, Makes, Sent, Step, around, node_ways, place_in, sent_of, text_of, view_in}
+use Rattle.bft_node.specs.Making.{Before, GoesWithin, IsStopped, Makes, Sent, Step, around, node_ways, place_in, sent_of, text_of, view_in}
 use Rattle.bft_node.specs.NodeFaults.{HasLimit, NeedsLimit}
 use Rattle.bft_node.specs.Running.{IsSound, as_found, place_of}
 use Rattle.bft_node.specs.Stores.{IsKept, config_of, held_of}
-use Rattle.bft_node.specs.declared.live.Done.{Done}
 use Rattle.bft_node.specs.declared.live.Out.{Out}
 use Rattle.bft_node.specs.declared.live.Running.{Running}
 use Rattle.bft_node.specs.declared.node_fault.NodeFault.{NodeFault}

@@ -25,8 +25,8 @@ use Rattle.view_core.specs.Places.{StandsAt}
 use Rattle.bft_node.specs.Commits.{Commits, SignsAtMost, commit_at, own_letter, statement_at}
 use Rattle.bft_node.specs.Held.{Held, with_deeds}
 use Rattle.bft_node.specs.Keeping.{Keeps, KeepsWithin}
-use Rattle.bft_node.specs.Making.{Before, BeganOnChain, GoesOn, IsDue, IsFront, IsMade, IsStopped, Makes, OpensMade, Step, Tells, act_in, around, node_ways, place_in, sent_of, text_of, view_in}
-use Rattle.bft_node.specs.NodeFaults.{HasLimit, IsNoLimit, NeedsLimit}
+use Rattle.bft_node.specs.Making.{Before, BeganOnChain, GoesOn, IsFront, IsMade, IsStopped, Makes, OpensMade, Step, Tells, act_in, around, node_ways, place_in, sent_of, text_of, view_in}
+use Rattle.bft_node.specs.NodeFaults.{IsNoLimit, NeedsLimit}
 use Rattle.bft_node.specs.Running.{as_found, place_of}
 use Rattle.bft_node.specs.Signings.{EndsAt, Grows, KeysFit, Signing, keys_after, statements_in}
 use Rattle.bft_node.specs.Stores.{IsKept, config_of, held_of}
@@ -36,7 +36,7 @@ use Rattle.bft_node.specs.declared.node_fault.NodeFault.{NodeFault}
 use Rattle.bft_node.specs.declared.store.Store.{Store}
 use Rattle.bft_node.proofs.ActLemmas.{sent_more}
 use Rattle.bft_node.proofs.KeepingLemmas.{kept_done, kept_facts, kept_held, kept_left, kept_limit, kept_went, same_place}
-use Rattle.bft_node.proofs.MakingLemmas.{Extends, front_more, front_of, goes_accepting, kept_opens, made_last, made_whole, unlimited}
+use Rattle.bft_node.proofs.MakingLemmas.{Extends, front_more, goes_accepting, kept_opens, made_last, made_whole, unlimited}
 use Rattle.bft_node.proofs.ViewLemmas.{act_in-vote_answer, at_place-at, me-kept_after}
 
 -- WHAT THE KEYS SIGNED

@@ -24,7 +24,7 @@ use Rattle.bft_node.specs.Crashes.{Image, IsCrash, Opens, Within}
 use Rattle.bft_node.specs.Held.{Held, with_deed, with_deeds}
 use Rattle.bft_node.specs.Keeping.{Keeps, KeepsWithin}
 use Rattle.bft_node.specs.Making.{Before, BeganOnChain, IsFront, IsMade, Makes, OpensMade, Step, around, done_by, is_preparation}
-use Rattle.bft_node.specs.Running.{IsReady, IsSound, place_of}
+use Rattle.bft_node.specs.Running.{IsSound, place_of}
 use Rattle.bft_node.specs.NodeFaults.{HasLimit, NeedsLimit, store_fault, write_limit}
 use Rattle.bft_node.specs.Stores.{IsKept, WriteAnswers, config_of, held_of}
 use Rattle.bft_node.specs.declared.live.Done.{Done}

@@ -1,5 +1,5 @@
 -- What a call of a node adds to the step so far.
-use Rattle.std.proofs.Common.{◌≡◌, ℕ, zero, suc, ◌+◌, ◌≤◌, Bool, cond, List, [], ◌∷◌, ◌++◌, length, take, drop, map, slice_get, Some, Result, Ok, Err, IfOk, OnOk, IsTrue, IsErrAnd, refl, sym, ap, subst, ◌∙◌, arith, append_assoc, length-append}
+use Rattle.std.proofs.Common.{◌≡◌, ℕ, zero, suc, ◌+◌, ◌≤◌, Bool, cond, List, [], ◌∷◌, ◌++◌, length, drop, slice_get, Some, Result, Ok, Err, IfOk, OnOk, IsTrue, IsErrAnd, refl, sym, ap, subst, ◌∙◌, arith, append_assoc, length-append}
 use Rattle.std.specs.List.{count_by, flat_map}
 use Rattle.std.proofs.Math.Seq.{drop-append_seam, drop-length, take-append_seam}
 use Rattle.std.proofs.lemmas.List.{append-nil, drop-append-le, take-append-le}
@@ -157,9 +157,9 @@ pub kept_opens : (b : Before) (store : Store) (deeds rest : List Deed) (all sign
     → (image : Image) → IsCrash state image → OpensMade judge b.config (deeds ++ rest) b.held all signed image
 kept_opens b store deeds rest all signed accepts judge state config held kept chain keeps made image crash =
     let here : IsChain judge (config_of store) (held_of store).blocks =
-        subst (λ (c : Config). IsChain judge c (held_of store).blocks) (sym config) (chain_stays accepts judge b.config (held_of store).blocks keeps chain) in
+    subst (λ (c : Config). IsChain judge c (held_of store).blocks) (sym config) (chain_stays accepts judge b.config (held_of store).blocks keeps chain) in
     let opens : Opens judge b.config image (held_of store) =
-        subst (λ (c : Config). Opens judge c image (held_of store)) config (store_opens judge store state kept here image crash) in
+    subst (λ (c : Config). Opens judge c image (held_of store)) config (store_opens judge store state kept here image crash) in
     record {
       kept = length deeds;
       some = omega (arith, length-append deeds rest);
@@ -238,8 +238,8 @@ pub stopped : (b : Before) (m n : Step) (told : Act) (r : Running) (a : Around) 
 stopped b m n told r a fault more h kept no_limit =
     let same = made_all m.state.deeds more.deeds.0 m.signed more.signed.0 more.rests in
     let made : IsMade (length m.state.deeds) n.state.deeds n.signed m.signed =
-        subst (λ (ds : List Deed). IsMade (length m.state.deeds) ds n.signed m.signed) more.deeds.1
-        (subst (λ (all : List (List ℕ)). IsMade (length m.state.deeds) (m.state.deeds ++ more.deeds.0) all m.signed) more.signed.1 same) in
+    subst (λ (ds : List Deed). IsMade (length m.state.deeds) ds n.signed m.signed) more.deeds.1
+    (subst (λ (all : List (List ℕ)). IsMade (length m.state.deeds) (m.state.deeds ++ more.deeds.0) all m.signed) more.signed.1 same) in
     stopped_with b m n told r a m.signed a.accepts fault more.deeds h kept (λ statement sig e. e) made no_limit
 
 -- THE VIEW ALONE

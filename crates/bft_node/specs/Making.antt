@@ -17,7 +17,7 @@ use Rattle.node_model.specs.declared.act.Act.TheVariants as act_of
 use Rattle.node_model.specs.Acts.{View, acceptance_due, preparation_due, due, deliver_act, delivery_due}
 use Rattle.node_model.specs.Answers.{after_act}
 use Rattle.node_model.specs.Deeds.{Deed, Accepts as Accepted, Prepares, Delivers, Logged, logged}
-use Rattle.node_model.specs.Restarts.{Found, Returned, Returns, returned_returns}
+use Rattle.node_model.specs.Restarts.{Returned, Returns, returned_returns}
 use Rattle.node_model.specs.Steps as steps
 use Rattle.node_model.specs.Steps.{Keys, Making, Ways, accept_round, prepare_round, votes}
 use Rattle.bft_node.specs.Crashes.{Image, IsCrash, Opens, Within}

@@ -1,5 +1,5 @@
 -- What a running node stands for, and what it keeps true.
-use Rattle.std.specs.Prelude.{◌≡◌, ℕ, Bool, List, Option, map, IsTrue}
+use Rattle.std.specs.Prelude.{◌≡◌, Bool, List, Option, IsTrue}
 use Rattle.std.specs.Option.{option_map}
 use Rattle.ord_types.specs.Grammar.{IsNumber}
 use Rattle.ord_types.specs.declared.values.Place.{Place}

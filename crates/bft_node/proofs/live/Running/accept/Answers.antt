@@ -1,5 +1,4 @@
 use Rattle.std.proofs.Common.{◌++◌, [], List, ap, map, refl, subst, sym, ◌∙◌}
-use Rattle.std.proofs.lemmas.Result.{IfOk-weaker}
 use Rattle.ord_types.specs.declared.values.Block.{Block}
 use Rattle.node_model.specs.Deeds.{acceptance}
 use Rattle.node_model.specs.declared.act.Act.TheVariants as act_of

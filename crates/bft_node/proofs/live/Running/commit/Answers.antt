@@ -1,13 +1,12 @@
-use Rattle.std.proofs.Common.{◌≡◌, ◌++◌, List, ap, map, refl, subst, sym, ◌∙◌}
+use Rattle.std.proofs.Common.{◌≡◌, ◌++◌, ap, map, refl, subst, ◌∙◌}
 use Rattle.ord_types.specs.declared.values.Place.{Place}
 use Rattle.bft_wire.specs.declared.message.Message.TheVariants as wire
 use Rattle.node_model.specs.Answers.{after_vote, at_place, vote_answer}
 use Rattle.node_model.specs.Letters.{Commit}
 use Rattle.node_model.specs.Steps.{to_all}
-use Rattle.bft_node.specs.Commits.{commit_at, own_letter}
+use Rattle.bft_node.specs.Commits.{own_letter}
 use Rattle.bft_node.specs.Making.{sent_of, text_of}
-use Rattle.bft_node.specs.Running.{IsSound, place_of}
-use Rattle.bft_node.specs.declared.live.Running.{Running}
+use Rattle.bft_node.specs.Running.{place_of}
 use Rattle.bft_node.proofs.ActLemmas.{placed_sound, voted_sound}
 use Rattle.bft_node.proofs.live.Running.commit.Goals as goal
 

@@ -33,13 +33,14 @@ returns-clause-makes g c =
       after = s.after;
       what = λ b m fit grows h.
           goes_on_with c.commit.result _ _ _ _ _ s.what c.commit.ensures.no_limit
-          (λ told made.
-              (tells_more b (makes_prepared node_ways b.keys c.args.digest m) told c.commit.new.self _ _ _ _ c.commit.new.out c.keep_preparation.ensures.tells
-              (prepared_tells g.K.Verifier.accepts b m c.args.digest r c.args.keys.now _ _ _ c.args.out.now h c.requires.kept (c.keep_preparation.ensures.any_moment _)
-              mid c.keep_preparation.new.out c.in_ok-keep_preparation.ensures.keeps told c.commit.new.self c.commit.new.keys s.signings c.commit.new.out c.in_ok-keep_preparation.ensures.ready.sound.at made fit grows),
-              prepared_signed g.K.Verifier.accepts b m c.args.digest r c.args.keys.now _ _ _ c.args.out.now h c.requires.kept (c.keep_preparation.ensures.any_moment _)
-              mid c.keep_preparation.new.out c.in_ok-keep_preparation.ensures.keeps told c.commit.new.self c.commit.new.keys s.signings c.commit.new.out c.in_ok-keep_preparation.ensures.ready.sound.at made fit grows))
+          (λ told made. (
+            tells_more b (makes_prepared node_ways b.keys c.args.digest m) told c.commit.new.self _ _ _ _ c.commit.new.out c.keep_preparation.ensures.tells
+                (prepared_tells g.K.Verifier.accepts b m c.args.digest r c.args.keys.now _ _ _ c.args.out.now h c.requires.kept (c.keep_preparation.ensures.any_moment _)
+                mid c.keep_preparation.new.out c.in_ok-keep_preparation.ensures.keeps told c.commit.new.self c.commit.new.keys s.signings c.commit.new.out c.in_ok-keep_preparation.ensures.ready.sound.at made fit grows),
+            prepared_signed g.K.Verifier.accepts b m c.args.digest r c.args.keys.now _ _ _ c.args.out.now h c.requires.kept (c.keep_preparation.ensures.any_moment _)
+                mid c.keep_preparation.new.out c.in_ok-keep_preparation.ensures.keeps told c.commit.new.self c.commit.new.keys s.signings c.commit.new.out c.in_ok-keep_preparation.ensures.ready.sound.at made fit grows,
+          ))
           (λ fault no_limit most. unsent_stopped g.K.Verifier.accepts b m c.args.digest r c.args.keys.now _ _ _ c.args.out.now h c.requires.kept (c.keep_preparation.ensures.any_moment _)
-              mid c.keep_preparation.new.out c.in_ok-keep_preparation.ensures.keeps
-              (λ t. c.in_ok-keep_preparation.ensures.ready.kept (subst IsTrue (sym c.keep_preparation.ensures.tells) t)) s.signings grows most fault no_limit);
+          mid c.keep_preparation.new.out c.in_ok-keep_preparation.ensures.keeps
+          (λ t. c.in_ok-keep_preparation.ensures.ready.kept (subst IsTrue (sym c.keep_preparation.ensures.tells) t)) s.signings grows most fault no_limit);
     }
