@@ -1,4 +1,6 @@
 mod ActLemmas
+mod CommitLemmas
+mod EventLemmas
 mod Folds
 mod GoingOn
 mod KeepingLemmas
@@ -11,8 +13,10 @@ mod RepeatLemmas
 mod Resumed
 mod RoundLemmas
 mod Running
+mod SigningLemmas
 mod SpelledLemmas
 mod Standings
 mod Stands
 mod StepDeeds
+mod StepLemmas
 mod ViewLemmas

@@ -292,6 +292,11 @@ pub given_up : {T E : Type 0} (r : Result T E) (R : E → Type 0) (P : T → Typ
 given_up (Ok x) R P Q h q = absurd h
 given_up (Err e) R P Q h q = q e h
 
+-- what follows further for an Ok, and what for a failure
+pub goes_on : {T E : Type 0} (r : Result T E) (P S : T → Type 0) (Q U : E → Type 0) → GoesOn r P Q → ((x : T) → P x → S x) → ((fault : E) → Q fault → U fault) → GoesOn r S U
+goes_on (Ok x) P S Q U h f g = f x h
+goes_on (Err e) P S Q U h f g = g e h
+
 -- the told act by its name
 pub told_as : (b : Before) (m : Step) (told next : Act) (r : Running) (a : Around) → told ≡ next → Makes b m told r a → Makes b m next r a
 told_as b m told next r a same h = subst (λ (x : Act). Makes b m x r a) same h
@@ -299,3 +304,21 @@ told_as b m told next r a same h = subst (λ (x : Act). Makes b m x r a) same h
 -- what the disk tells by another name
 pub makes_tells : (b : Before) (m : Step) (told : Act) (r : Running) (accepts : Accepts) (t u : Bool) (moments : List State) (out : Out) → u ≡ t → Makes b m told r (around accepts t moments out) → Makes b m told r (around accepts u moments out)
 makes_tells b m told r accepts t u moments out same h = subst (λ (v : Bool). Makes b m told r (around accepts v moments out)) (sym same) h
+
+pub tells_more : (b : Before) (m : Step) (told : Act) (r : Running) (accepts : Accepts) (t u : Bool) (moments : List State) (out : Out) → u ≡ t → Tells b m told r (around accepts t moments out) → Tells b m told r (around accepts u moments out)
+tells_more b m told r accepts t u moments out same h = record { makes = makes_tells b m told r accepts t u moments out same h.makes; due = h.due }
+
+pub stopped_tells : (b : Before) (m : Step) (signed : List (List ℕ)) (accepts : Accepts) (t u : Bool) (moments : List State) (fault : NodeFault) → u ≡ t → IsStopped b m signed accepts t moments fault → IsStopped b m signed accepts u moments fault
+stopped_tells b m signed accepts t u moments fault same s = subst (λ (v : Bool). IsStopped b m signed accepts v moments fault) (sym same) s
+
+pub stopped_fault : (b : Before) (m : Step) (signed : List (List ℕ)) (accepts : Accepts) (tells : Bool) (moments : List State) (one fault : NodeFault) → fault ≡ one → IsStopped b m signed accepts tells moments one → IsStopped b m signed accepts tells moments fault
+stopped_fault b m signed accepts tells moments one fault same s = subst (λ (e : NodeFault). IsStopped b m signed accepts tells moments e) (sym same) s
+
+-- what was given up by other names
+pub stopped_by : (b : Before) (m n : Step) (signed all : List (List ℕ)) (old new : Accepts) (t u : Bool) (moments : List State) (one fault : NodeFault) → n ≡ m → all ≡ signed → new ≡ old → u ≡ t → fault ≡ one
+    → IsStopped b m signed old t moments one → IsStopped b n all new u moments fault
+stopped_by b m n signed all old new t u moments one fault step statements accepts tells same s =
+    subst (λ (x : Step). IsStopped b x all new u moments fault) (sym step)
+    (subst (λ (l : List (List ℕ)). IsStopped b m l new u moments fault) (sym statements)
+    (subst (λ (a : Accepts). IsStopped b m signed a u moments fault) (sym accepts)
+    (subst (λ (v : Bool). IsStopped b m signed old v moments fault) (sym tells) (stopped_fault b m signed old t moments one fault same s))))

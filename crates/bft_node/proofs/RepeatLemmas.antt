@@ -106,6 +106,10 @@ module _ (b : Before) (m : Step) (digest : List ℕ) (old : Running) (accepts : 
     pub repeats_all : SignsAtMost (statement_at old digest) signings
     repeats_all = ([], append-nil (statements_in signings) ∙ ap (λ (l : List (Signing K)). statements_in l) c.signed)
 
+    pub repeats_signed : (repeats_commit node_returns b.keys digest m).signed ≡ m.signed ++ statements_in signings
+    unfolding here
+    repeats_signed = ap (λ s. m.signed ++ s ∷ []) (sym statement_here) ∙ ap (λ (l : List (Signing K)). m.signed ++ statements_in l) (sym c.signed)
+
     module _ (at : StandsAt (place_of old) old.view) (no_accept : (x : Block) → told ≡ act_of.Accept x → ⊥) (no_prepare : (x : List ℕ) → told ≡ act_of.Prepare x → ⊥)
         (signs : b.keys.signs m.signed ≡ c.sig) (later_is : b.keys.accepts (m.signed ++ statement_at old digest ∷ []) ≡ later) (grows : KeepsAccepted accepts later) where
       signed_later : b.keys.accepts (m.signed ++ here ∷ []) ≡ later
@@ -211,6 +215,9 @@ module _ (b : Before) (m : Step) (old : Running) (accepts : Accepts) (tells : Bo
     pub none_repeated : false ≡ is_current (place_of old) old.view f → Makes b (repeat_round node_returns b.keys (current (place_in m) (view_in m) (Some f)) m) act_of.Kept old (around accepts tells moments before)
     none_repeated e = rw (current_in false e) h
 
+    pub none_signed : false ≡ is_current (place_of old) old.view f → (repeat_round node_returns b.keys (current (place_in m) (view_in m) (Some f)) m).signed ≡ m.signed ++ []
+    none_signed e = rw (current_in false e) (sym (append-nil m.signed))
+
     -- what is sent where it is current
     pub round_is : true ≡ is_current (place_of old) old.view f → (flag : Bool) → f.is_prepared ≡ flag
         → repeats_if node_returns b.keys flag (block_hash f.block) (repeats_votes node_ways f.block m) ≡ repeat_round node_returns b.keys (current (place_in m) (view_in m) (Some f)) m
@@ -251,10 +258,10 @@ ready_taken tells moments r found ready =
 
 -- the same step by another name
 pub goes_as : {T : Type 0} (b : Before) (r : Result T NodeFault) (new : Running) (a : Around) (signed : List (List ℕ)) (accepts : Accepts) (tells : Bool) (moments : List State) (one two : Step) → one ≡ two
-    → GoesOn r (λ x. Makes b one act_of.Kept new a) (λ fault. IsStopped b one signed accepts tells moments fault)
-    → GoesOn r (λ x. Makes b two act_of.Kept new a) (λ fault. IsStopped b two signed accepts tells moments fault)
+    → GoesOn r (λ _. Makes b one act_of.Kept new a × (one.signed ≡ signed)) (λ fault. IsStopped b one signed accepts tells moments fault)
+    → GoesOn r (λ _. Makes b two act_of.Kept new a × (two.signed ≡ signed)) (λ fault. IsStopped b two signed accepts tells moments fault)
 goes_as b r new a signed accepts tells moments one two same goes =
-    subst (λ (n : Step). GoesOn r (λ x. Makes b n act_of.Kept new a) (λ fault. IsStopped b n signed accepts tells moments fault)) same goes
+    subst (λ (n : Step). GoesOn r (λ _. Makes b n act_of.Kept new a × (n.signed ≡ signed)) (λ fault. IsStopped b n signed accepts tells moments fault)) same goes
 
 -- what was found by another name
 pub makes_found : (b : Before) (m : Step) (told : Act) (r : Running) (one two : Option Kept) (a : Around) → two ≡ one → Makes b m told (record r { found = one }) a → Makes b m told (record r { found = two }) a

@@ -40,3 +40,8 @@ pub record IsSound (r : Running) : Type 0 where
 pub record IsReady (tells : Bool) (moments : List State) (r : Running) : Type 0 where
   pub sound : IsSound r
   pub kept : IsTrue tells → IsKept r.store (now moments)
+
+-- It is the same node, in the chain of the same first configuration.
+pub record IsSame (old new : Running) : Type 0 where
+  pub id : new.id ≡ old.id
+  pub config : config_of new.store ≡ config_of old.store

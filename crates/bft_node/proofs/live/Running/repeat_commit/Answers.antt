@@ -2,7 +2,7 @@ use Rattle.std.proofs.Common.{inl, subst, sym}
 use Rattle.bft_node.specs.Commits.{SignsAtMost, statement_at}
 use Rattle.bft_node.specs.NodeFaults.{IsNoLimit}
 use Rattle.bft_node.proofs.MakingLemmas.{given_up}
-use Rattle.bft_node.proofs.RepeatLemmas.{commit_repeated, commit_stopped, repeats_all, signs_handed}
+use Rattle.bft_node.proofs.RepeatLemmas.{commit_repeated, commit_stopped, repeats_all, repeats_signed, signs_handed}
 use Rattle.bft_node.proofs.live.Running.repeat_commit.Goals as goal
 
 pub returns-in_err-commit-clause-makes : goal.returns-in_err-commit-clause-makes
@@ -27,6 +27,7 @@ pub returns : goal.returns
 returns g c =
     let s = c.in_ok-commit.ensures.signs in
     record {
+      same = c.commit.ensures.same;
       sound = c.commit.ensures.sound;
       ready = c.commit.ensures.ready;
       makes = record {
@@ -34,7 +35,8 @@ returns g c =
         given = s.given;
         after = s.after;
         what = λ tells moments b m ready none fit grows h.
-            commit_repeated g.K.Verifier.accepts _ c.args.digest c.args.self.now c.args.out.now s.signings tells moments b m h _ c.in_ok-commit.field-0 c.commit.new.self c.commit.new.out c.requires.at c.in_default.not-Accept c.in_default.not-Prepare s.what fit grows;
+            (commit_repeated g.K.Verifier.accepts _ c.args.digest c.args.self.now c.args.out.now s.signings tells moments b m h _ c.in_ok-commit.field-0 c.commit.new.self c.commit.new.out c.requires.at c.in_default.not-Accept c.in_default.not-Prepare s.what fit grows,
+            repeats_signed b m c.args.digest c.args.self.now _ tells moments c.args.out.now h _ _ _ _ s.signings _ s.what);
       };
       later = c.commit.ensures.later;
       no_limit = tt;
