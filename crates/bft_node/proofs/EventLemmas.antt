@@ -100,8 +100,8 @@ vote_view result r accepts p letter left s here ok err =
     let kept : View = kept_after accepts (place_of r) r.view letter in
     whatever result (left ≡ after_vote accepts p r.view letter) (left ≡ at_place p r.view) (IsViewOf r left) ok err
     (λ e. subst (IsViewOf r)
-        (sym (e ∙ ap (λ q. after_vote accepts q r.view letter) here ∙ ap (λ v. after_act (vote_answer accepts (place_of r) v letter) (kept_after accepts (place_of r) v letter)) at))
-        (act_view r (vote_answer accepts (place_of r) r.view letter) kept (kept_view_of r accepts r.view letter (same_view r s))))
+    (sym (e ∙ ap (λ q. after_vote accepts q r.view letter) here ∙ ap (λ v. after_act (vote_answer accepts (place_of r) v letter) (kept_after accepts (place_of r) v letter)) at))
+    (act_view r (vote_answer accepts (place_of r) r.view letter) kept (kept_view_of r accepts r.view letter (same_view r s))))
     (λ e. subst (IsViewOf r) (sym (e ∙ ap (λ q. at_place q r.view) here ∙ at)) (same_view r s))
 
 -- WHERE A STEP BEGINS
@@ -119,7 +119,7 @@ pub begun : (b : Before) (r new : Running) (a : Around) (event : steps.Event) (t
 begun b r new a event told came h mine id store found comes me view =
     let place : place_of new ≡ place_of r = ap (λ (s : Store). place_after (config_of s) (held_of s).blocks) store in
     let first : IsChain b.first b.config b.held.blocks → IsChain a.accepts b.config (held_of r.store).blocks = λ began.
-        subst (λ (x : Held). IsChain a.accepts b.config x.blocks) (sym h.held) (subst (λ (k : Accepts). IsChain k b.config b.held.blocks) h.first began) in
+    subst (λ (x : Held). IsChain a.accepts b.config x.blocks) (sym h.held) (subst (λ (k : Accepts). IsChain k b.config b.held.blocks) h.first began) in
     record {
       id = id ∙ h.id;
       config = ap config_of store ∙ h.config;
@@ -203,8 +203,8 @@ vote_told b r left a from bytes message vote told accepts p s other here answer 
     let at = at_place-at (place_of r) r.view s.at in
     let told_here : told ≡ vote_answer accepts (place_of r) r.view letter = answer ∙ ap (λ q. vote_answer accepts q (at_place q r.view) letter) here ∙ ap (λ v. vote_answer accepts (place_of r) v letter) at in
     let left_here : left ≡ after_act told (kept_after accepts (place_of r) r.view letter) =
-        after ∙ ap (λ q. after_vote accepts q r.view letter) here ∙ ap (λ v. after_act (vote_answer accepts (place_of r) v letter) (kept_after accepts (place_of r) v letter)) at
-        ∙ ap (λ t. after_act t (kept_after accepts (place_of r) r.view letter)) (sym told_here) in
+    after ∙ ap (λ q. after_vote accepts q r.view letter) here ∙ ap (λ v. after_act (vote_answer accepts (place_of r) v letter) (kept_after accepts (place_of r) v letter)) at
+    ∙ ap (λ t. after_act t (kept_after accepts (place_of r) r.view letter)) (sym told_here) in
     let same : kept_after accepts (place_of r) r.view letter ≡ kept_after a.accepts (place_of r) r.view letter = ap (λ (k : Accepts). kept_after k (place_of r) r.view letter) (sym is) in
     begun_told b r (with_view r left) a from bytes told (kept_after a.accepts (place_of r) r.view letter) h s.me refl refl refl
     (hears_other b r a from bytes vote h (a_letter from bytes message vote spelt voted) (λ e. other (e ∙ s.me)))
@@ -283,8 +283,8 @@ propose_view result r p offer left s here ok err =
     let at = at_place-at (place_of r) r.view s.at in
     whatever result (left ≡ after_propose p r.view offer) (left ≡ at_place p r.view) (IsViewOf r left) ok err
     (λ e. subst (IsViewOf r)
-        (sym (e ∙ ap (λ q. after_propose q r.view offer) here ∙ ap (λ v. after_act (propose_answer (place_of r) v offer) v) at))
-        (act_view r (propose_answer (place_of r) r.view offer) r.view (same_view r s)))
+    (sym (e ∙ ap (λ q. after_propose q r.view offer) here ∙ ap (λ v. after_act (propose_answer (place_of r) v offer) v) at))
+    (act_view r (propose_answer (place_of r) r.view offer) r.view (same_view r s)))
     (λ e. subst (IsViewOf r) (sym (e ∙ ap (λ q. at_place q r.view) here ∙ at)) (same_view r s))
 
 -- with the proposal that is due

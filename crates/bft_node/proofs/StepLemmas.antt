@@ -102,8 +102,8 @@ module _ (model : Keys) (old new : Running) (event : steps.Event) (signed : List
       let m : Step = step_from model old event in
       let deeds : List Deed = m.state.deeds in
       let made : IsMade (length deeds) (deeds ++ []) m.signed signed =
-          subst (λ (ds : List Deed). IsMade (length deeds) ds m.signed signed) (sym (append-nil deeds))
-          (subst (λ (l : List (List ℕ)). IsMade (length deeds) deeds m.signed l) all (made_whole deeds m.signed)) in
+      subst (λ (ds : List Deed). IsMade (length deeds) ds m.signed signed) (sym (append-nil deeds))
+      (subst (λ (l : List (List ℕ)). IsMade (length deeds) deeds m.signed l) all (made_whole deeds m.signed)) in
       record {
         steps = record {
           state = same_returned (place_of new) (place_in m) new.view (view_in m) (as_found new.found) m.state.state.found h.place h.view h.found;

@@ -34,9 +34,10 @@ returns g c =
         signings = s.signings;
         given = s.given;
         after = s.after;
-        what = λ tells moments b m ready none fit grows h.
-            (commit_repeated g.K.Verifier.accepts _ c.args.digest c.args.self.now c.args.out.now s.signings tells moments b m h _ c.in_ok-commit.field-0 c.commit.new.self c.commit.new.out c.requires.at c.in_default.not-Accept c.in_default.not-Prepare s.what fit grows,
-            repeats_signed b m c.args.digest c.args.self.now _ tells moments c.args.out.now h _ _ _ _ s.signings _ s.what);
+        what = λ tells moments b m ready none fit grows h. (
+          commit_repeated g.K.Verifier.accepts _ c.args.digest c.args.self.now c.args.out.now s.signings tells moments b m h _ c.in_ok-commit.field-0 c.commit.new.self c.commit.new.out c.requires.at c.in_default.not-Accept c.in_default.not-Prepare s.what fit grows,
+          repeats_signed b m c.args.digest c.args.self.now _ tells moments c.args.out.now h _ _ _ _ s.signings _ s.what,
+        );
       };
       later = c.commit.ensures.later;
       no_limit = tt;

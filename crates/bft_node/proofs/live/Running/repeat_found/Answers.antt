@@ -58,8 +58,9 @@ returns-clause-makes g c =
       after = refl;
       what = λ tells moments b m ready none fit grows h.
           let f : Found = record { config = c.args.found.now.config; view = c.args.found.now.view; height = c.args.found.now.height; block = c.args.found.now.block; is_prepared = c.args.found.now.is_prepared } in
-          let is = round_is b m c.args.self.now _ tells moments c.args.out.now h f (sym c.if-not-is_current.false ∙ c.is_current.ensures f refl) false c.if-found.false in
-          (subst (λ (n : Step). Makes b n act_of.Kept c.args.self.now (around (g.K.Verifier.accepts c.args.keys.now) tells moments c.repeat_votes.new.out)) is
-          (votes_repeated b m c.args.self.now _ tells moments c.args.out.now h f c.repeat_votes.new.out c.repeat_votes.ensures.facts c.repeat_votes.ensures.done c.in_ok-repeat_votes.ensures.sent),
-          ap (λ (n : Step). n.signed) (sym is) ∙ sym (append-nil m.signed));
+          let is = round_is b m c.args.self.now _ tells moments c.args.out.now h f (sym c.if-not-is_current.false ∙ c.is_current.ensures f refl) false c.if-found.false in (
+            subst (λ (n : Step). Makes b n act_of.Kept c.args.self.now (around (g.K.Verifier.accepts c.args.keys.now) tells moments c.repeat_votes.new.out)) is
+                (votes_repeated b m c.args.self.now _ tells moments c.args.out.now h f c.repeat_votes.new.out c.repeat_votes.ensures.facts c.repeat_votes.ensures.done c.in_ok-repeat_votes.ensures.sent),
+            ap (λ (n : Step). n.signed) (sym is) ∙ sym (append-nil m.signed),
+          );
     }
