@@ -228,7 +228,9 @@ message_begun b r a from bytes h mine =
 
 -- A PREPARE of another member
 
-module _ (r : Running) (left : View) (from : ℕ) (message : Prepare) (told : Act) (p : Place) (s : IsSound r) (other : from ≡ r.id → ⊥) (here : p ≡ place_of r) (answer : told ≡ prepare_answer p (at_place p r.view) (letter_of from (vote_of.Prepare message))) (after : left ≡ after_prepare p r.view (letter_of from (vote_of.Prepare message))) where
+module _ (r : Running) (left : View) (from : ℕ) (message : Prepare) (told : Act) (p : Place)
+    (s : IsSound r) (other : from ≡ r.id → ⊥) (here : p ≡ place_of r) (answer : told ≡ prepare_answer p (at_place p r.view) (letter_of from (vote_of.Prepare message)))
+    (after : left ≡ after_prepare p r.view (letter_of from (vote_of.Prepare message))) where
   answer_here : told ≡ prepare_answer (place_of r) (at_place (place_of r) r.view) (letter_of from (vote_of.Prepare message))
   answer_here = answer ∙ ap (λ q. prepare_answer q (at_place q r.view) (letter_of from (vote_of.Prepare message))) here
 

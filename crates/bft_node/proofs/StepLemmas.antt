@@ -54,8 +54,9 @@ pub proposes_signed : (b : Before) (m : Step) (offer : List Request) → (propos
 proposes_signed b m offer = proposal_signed m (proposed (place_in m) (view_in m) offer)
 
 -- what a step makes by other names
-pub ends_as : {T : Type 0} (result : Result T NodeFault) (b : Before) (m n : Step) (new : Running) (a : Around) (signed all : List (List ℕ)) (one two : Accepts) (t u : Bool) (moments : List State) → m ≡ n → signed ≡ all → one ≡ two → t ≡ u
-    → GoesOn result (λ _. Makes b m act_of.Kept new a × (m.signed ≡ signed)) (IsStopped b m signed one t moments) → GoesOn result (λ _. Makes b n act_of.Kept new a × (n.signed ≡ all)) (IsStopped b n all two u moments)
+pub ends_as : {T : Type 0} (result : Result T NodeFault) (b : Before) (m n : Step) (new : Running) (a : Around) (signed all : List (List ℕ)) (one two : Accepts) (t u : Bool) (moments : List State)
+    → m ≡ n → signed ≡ all → one ≡ two → t ≡ u → GoesOn result (λ _. Makes b m act_of.Kept new a × (m.signed ≡ signed)) (IsStopped b m signed one t moments)
+    → GoesOn result (λ _. Makes b n act_of.Kept new a × (n.signed ≡ all)) (IsStopped b n all two u moments)
 ends_as result b m n new a signed all one two t u moments is same accepts tells h =
     subst (λ (v : Bool). GoesOn result (λ _. Makes b n act_of.Kept new a × (n.signed ≡ all)) (IsStopped b n all two v moments)) tells
     (subst (λ (k : Accepts). GoesOn result (λ _. Makes b n act_of.Kept new a × (n.signed ≡ all)) (IsStopped b n all k t moments)) accepts
@@ -69,7 +70,8 @@ stopped_as b m n signed all one two t u moments fault is same accepts tells h =
     (subst (λ (l : List (List ℕ)). IsStopped b n l one t moments fault) same (subst (λ (x : Step). IsStopped b x signed one t moments fault) is h)))
 
 -- with the fault by another name
-pub stopped_by : (b : Before) (m : Step) (signed : List (List ℕ)) (accepts : Accepts) (tells : Bool) (moments : List State) (one two : NodeFault) → one ≡ two → IsStopped b m signed accepts tells moments two → IsStopped b m signed accepts tells moments one
+pub stopped_by : (b : Before) (m : Step) (signed : List (List ℕ)) (accepts : Accepts) (tells : Bool) (moments : List State) (one two : NodeFault) → one ≡ two
+    → IsStopped b m signed accepts tells moments two → IsStopped b m signed accepts tells moments one
 stopped_by b m signed accepts tells moments one two is h = subst (IsStopped b m signed accepts tells moments) (sym is) h
 
 -- WHAT IS DUE IS MADE FURTHER

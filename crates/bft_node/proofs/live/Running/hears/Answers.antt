@@ -15,18 +15,21 @@ returns-then-from-self-clause-makes g c =
 pub returns-in-PrePrepare-clause-sound : goal.returns-in-PrePrepare-clause-sound
 returns-in-PrePrepare-clause-sound g c =
     view_sound c.args.self.now c.on_preprepare.new.self c.requires.sound
-    (vote_view c.on_preprepare.result c.args.self.now (g.V.Verifier.accepts c.args.keys.now) c.place.result.now (letter_of c.args.from (vote_of.PrePrepare c.in-PrePrepare.message)) c.on_preprepare.new.self c.requires.sound c.place.ensures c.on_preprepare.ensures.after c.on_preprepare.ensures.err)
+    (vote_view c.on_preprepare.result c.args.self.now (g.V.Verifier.accepts c.args.keys.now) c.place.result.now (letter_of c.args.from (vote_of.PrePrepare c.in-PrePrepare.message))
+    c.on_preprepare.new.self c.requires.sound c.place.ensures c.on_preprepare.ensures.after c.on_preprepare.ensures.err)
 
 pub returns-in-PrePrepare-clause-ready : goal.returns-in-PrePrepare-clause-ready
 returns-in-PrePrepare-clause-ready g c =
     view_ready c.args.self.now c.on_preprepare.new.self
-    (vote_view c.on_preprepare.result c.args.self.now (g.V.Verifier.accepts c.args.keys.now) c.place.result.now (letter_of c.args.from (vote_of.PrePrepare c.in-PrePrepare.message)) c.on_preprepare.new.self c.requires.sound c.place.ensures c.on_preprepare.ensures.after c.on_preprepare.ensures.err)
+    (vote_view c.on_preprepare.result c.args.self.now (g.V.Verifier.accepts c.args.keys.now) c.place.result.now (letter_of c.args.from (vote_of.PrePrepare c.in-PrePrepare.message))
+    c.on_preprepare.new.self c.requires.sound c.place.ensures c.on_preprepare.ensures.after c.on_preprepare.ensures.err)
 
 pub returns-in-PrePrepare-clause-makes : goal.returns-in-PrePrepare-clause-makes
 returns-in-PrePrepare-clause-makes g c =
     IfOk-with c.on_preprepare.result _ _ _
     (λ told answer after b bytes a is spelt h.
-    vote_told b c.args.self.now c.on_preprepare.new.self a c.args.from bytes c.args.message (vote_of.PrePrepare c.in-PrePrepare.message) told (g.V.Verifier.accepts c.args.keys.now) c.place.result.now c.requires.sound c.if-from-self.false c.place.ensures
+    vote_told b c.args.self.now c.on_preprepare.new.self a c.args.from bytes c.args.message (vote_of.PrePrepare c.in-PrePrepare.message) told (g.V.Verifier.accepts c.args.keys.now) c.place.result.now
+    c.requires.sound c.if-from-self.false c.place.ensures
     answer after is spelt (ap vote_in c.in-PrePrepare.is) h)
     c.on_preprepare.ensures.answer c.on_preprepare.ensures.after
 
@@ -37,18 +40,21 @@ returns-in-Prepare-clause-makes g c =
 pub returns-in-Commit-clause-sound : goal.returns-in-Commit-clause-sound
 returns-in-Commit-clause-sound g c =
     view_sound c.args.self.now c.on_commit.new.self c.requires.sound
-    (vote_view c.on_commit.result c.args.self.now (g.V.Verifier.accepts c.args.keys.now) c.place-in-Commit.result.now (letter_of c.args.from (vote_of.Commit c.in-Commit.message)) c.on_commit.new.self c.requires.sound c.place-in-Commit.ensures c.on_commit.ensures.after c.on_commit.ensures.err)
+    (vote_view c.on_commit.result c.args.self.now (g.V.Verifier.accepts c.args.keys.now) c.place-in-Commit.result.now (letter_of c.args.from (vote_of.Commit c.in-Commit.message))
+    c.on_commit.new.self c.requires.sound c.place-in-Commit.ensures c.on_commit.ensures.after c.on_commit.ensures.err)
 
 pub returns-in-Commit-clause-ready : goal.returns-in-Commit-clause-ready
 returns-in-Commit-clause-ready g c =
     view_ready c.args.self.now c.on_commit.new.self
-    (vote_view c.on_commit.result c.args.self.now (g.V.Verifier.accepts c.args.keys.now) c.place-in-Commit.result.now (letter_of c.args.from (vote_of.Commit c.in-Commit.message)) c.on_commit.new.self c.requires.sound c.place-in-Commit.ensures c.on_commit.ensures.after c.on_commit.ensures.err)
+    (vote_view c.on_commit.result c.args.self.now (g.V.Verifier.accepts c.args.keys.now) c.place-in-Commit.result.now (letter_of c.args.from (vote_of.Commit c.in-Commit.message))
+    c.on_commit.new.self c.requires.sound c.place-in-Commit.ensures c.on_commit.ensures.after c.on_commit.ensures.err)
 
 pub returns-in-Commit-clause-makes : goal.returns-in-Commit-clause-makes
 returns-in-Commit-clause-makes g c =
     IfOk-with c.on_commit.result _ _ _
     (λ told answer after b bytes a is spelt h.
-    vote_told b c.args.self.now c.on_commit.new.self a c.args.from bytes c.args.message (vote_of.Commit c.in-Commit.message) told (g.V.Verifier.accepts c.args.keys.now) c.place-in-Commit.result.now c.requires.sound c.if-from-self.false c.place-in-Commit.ensures
+    vote_told b c.args.self.now c.on_commit.new.self a c.args.from bytes c.args.message (vote_of.Commit c.in-Commit.message) told (g.V.Verifier.accepts c.args.keys.now) c.place-in-Commit.result.now
+    c.requires.sound c.if-from-self.false c.place-in-Commit.ensures
     answer after is spelt (ap vote_in c.in-Commit.is) h)
     c.on_commit.ensures.answer c.on_commit.ensures.after
 

@@ -21,7 +21,8 @@ returns-in-Accept-clause-makes g c = λ b m h.
     let accepts = g.V.Verifier.accepts c.args.keys.now in
     let answer = c.in_ok-block.ensures.answer in
     let made = proposed_makes b m r _ h c.requires.sound c.args.offer c.propose.new.self c.in_ok-block.field-0 c.place.result.now c.place.ensures answer c.in_ok-block.ensures.after c.in-Accept.block c.in-Accept.is in
-    subst (λ (n : Step). GoesOn c.accept_own.result (λ _. Makes b n act_of.Kept c.accept_own.new.self (around accepts (g.D.Disk.tells c.accept_own.new.disk) (g.D.Disk.moments c.accept_own.new.disk) c.accept_own.new.out)) (λ fault. IsStopped b n m.signed accepts (g.D.Disk.tells c.args.disk.now) (g.D.Disk.moments c.accept_own.new.disk) fault))
+    subst (λ (n : Step). GoesOn c.accept_own.result (λ _. Makes b n act_of.Kept c.accept_own.new.self (around accepts (g.D.Disk.tells c.accept_own.new.disk) (g.D.Disk.moments c.accept_own.new.disk) c.accept_own.new.out))
+    (λ fault. IsStopped b n m.signed accepts (g.D.Disk.tells c.args.disk.now) (g.D.Disk.moments c.accept_own.new.disk) fault))
     (sym (proposed_round b m r _ h c.requires.sound c.args.offer c.propose.new.self c.in_ok-block.field-0 c.place.result.now c.place.ensures answer c.in_ok-block.ensures.after c.in-Accept.block c.in-Accept.is))
     (c.accept_own.ensures.makes accepts b m made)
 

@@ -61,7 +61,8 @@ returns-clause-makes g c =
     (λ xs ys at does more b fit grows h.
     let first = repeated b r offer in
     let second = proposes b first offer in
-    let one = does (g.D.Disk.tells c.args.disk.now) (g.D.Disk.moments c.args.disk.now) b (started b r (Tick offer)) c.requires refl (fits_first accepts b.keys [] old xs ys fit) (grows_first accepts old xs ys grows) (tick_begun b r _ offer h c.requires.sound.me) in
+    let one = does (g.D.Disk.tells c.args.disk.now) (g.D.Disk.moments c.args.disk.now) b (started b r (Tick offer)) c.requires refl
+    (fits_first accepts b.keys [] old xs ys fit) (grows_first accepts old xs ys grows) (tick_begun b r _ offer h c.requires.sound.me) in
     let two = c.in_ok-propose.ensures.makes b first one.0 in
     let three = c.in_ok-told.ensures.makes b second _ refl two in
     let signed = proposes_signed b first offer ∙ one.1 in
