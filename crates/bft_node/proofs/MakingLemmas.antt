@@ -88,10 +88,6 @@ goes_within b m n accepts tells moments more went = λ began judge keeps told.
 pub goes_accepting : (b : Before) (m : Step) (old new : Accepts) (tells : Bool) (moments : List State) → KeepsAccepted old new → GoesWithin b m old tells moments → GoesWithin b m new tells moments
 goes_accepting b m old new tells moments more went = λ began judge keeps told. went began judge (λ statement sig h. keeps statement sig (more statement sig h)) told
 
-pub leaves_accepting : (b : Before) (m : Step) (signed : List (List ℕ)) (old new : Accepts) (tells : Bool) (moments : List State) → KeepsAccepted old new → LeavesMade b m signed old tells moments → LeavesMade b m signed new tells moments
-leaves_accepting b m signed old new tells moments more left = λ began judge keeps told image crash.
-    left began judge (λ statement sig h. keeps statement sig (more statement sig h)) told image crash
-
 -- WHAT A STEP THAT WAS GIVEN UP LEAVES
 
 -- with as many signatures as preparations more

@@ -39,14 +39,6 @@ pub accepted_in-told : (b : Before) (m : Step) (told : Act) (block : Block) → 
 accepted_in-told b m told block e d =
     ap (λ o. accept_round node_ways o m) (acceptance_due-told (b.keys.accepts m.signed) (place_in m) (view_in m) block (ap act_in (sym e) ∙ d))
 
-pub accepted_in-makes : (b : Before) (m : Step) (told next : Act) (block : Block) (node now : Running) (old new : Around) → told ≡ act_of.Accept block → (Makes b m (act_of.Accept block) node old → Makes b (makes_accepted node_ways block [] m) next now new) → Makes b m told node old → IsDue b m told → Makes b (accepted_in b m) next now new
-accepted_in-makes b m told next block node now old new e f h d =
-    subst (λ (x : Step). Makes b x next now new) (sym (accepted_in-told b m told block e d)) (f (subst (λ t. Makes b m t node old) e h))
-
-pub accepted_in-due : (b : Before) (m : Step) (told next : Act) (block : Block) (node : Running) (old : Around) → told ≡ act_of.Accept block → (Makes b m (act_of.Accept block) node old → IsDue b (makes_accepted node_ways block [] m) next) → Makes b m told node old → IsDue b m told → IsDue b (accepted_in b m) next
-accepted_in-due b m told next block node old e f h d =
-    subst (λ (x : Step). IsDue b x next) (sym (accepted_in-told b m told block e d)) (f (subst (λ t. Makes b m t node old) e h))
-
 act_in-accept : (act : Act) (block : Block) → act_in act ≡ Some (act_of.Accept block) → act ≡ act_of.Accept block
 act_in-accept (act_of.Accept b) block e = cc
 act_in-accept (act_of.Prepare d) block e = cc
@@ -83,10 +75,6 @@ pub prepared_in-told : (b : Before) (m : Step) (told : Act) (digest : List ℕ) 
 prepared_in-told b m told digest e d =
     ap (λ o. prepare_round node_ways b.keys o m) (preparation_due-told (b.keys.accepts m.signed) (place_in m) (view_in m) digest (ap act_in (sym e) ∙ d)).1
 
-pub prepared_in-makes : (b : Before) (m : Step) (told next : Act) (digest : List ℕ) (node now : Running) (old new : Around) → told ≡ act_of.Prepare digest → (Makes b m (act_of.Prepare digest) node old → Makes b (makes_prepared node_ways b.keys digest m) next now new) → Makes b m told node old → IsDue b m told → Makes b (prepared_in b m) next now new
-prepared_in-makes b m told next digest node now old new e f h d =
-    subst (λ (x : Step). Makes b x next now new) (sym (prepared_in-told b m told digest e d)) (f (subst (λ t. Makes b m t node old) e h))
-
 only_delivery : (a : Option Block) (p : Option (List ℕ)) (d : Option (Block × Cert)) → a ≡ None → p ≡ None → first_of (accept_act a) (first_of (prepare_act p) (deliver_act d)) ≡ deliver_act d
 only_delivery a p d e f = rw (e, f)
 
@@ -100,11 +88,6 @@ delivery_after b m digest next p d =
     let none = acceptance_due-accepted (b.keys.accepts made.signed) (place_in m) (view_in made) accepted.0 (accepted-kept_after (b.keys.accepts made.signed) (place_in m) before letter ∙ accepted.1) in
     let prepared = preparation_due-prepared (place_in m) (view_in made) (is_prepared-kept_after (b.keys.accepts made.signed) (place_in m) before letter) in
     d ∙ only_delivery (acceptance_due (b.keys.accepts made.signed) (place_in m) (view_in made)) (preparation_due (place_in m) (view_in made)) (delivery_due (place_in m) (view_in made)) none prepared
-
-pub prepared_in-delivery : (b : Before) (m : Step) (told next : Act) (digest : List ℕ) (node : Running) (old : Around) → told ≡ act_of.Prepare digest → (Makes b m (act_of.Prepare digest) node old → IsDue b (makes_prepared node_ways b.keys digest m) next) → Makes b m told node old → IsDue b m told → IsDelivery (prepared_in b m) next
-prepared_in-delivery b m told next digest node old e f h d =
-    let p = (preparation_due-told (b.keys.accepts m.signed) (place_in m) (view_in m) digest (ap act_in (sym e) ∙ d)).1 in
-    subst (λ (x : Step). IsDelivery x next) (sym (prepared_in-told b m told digest e d)) (delivery_after b m digest next p (f (subst (λ t. Makes b m t node old) e h)))
 
 no_preparation : (act : Act) (a : Option Block) (p : Option (List ℕ)) (d : Option (Block × Cert)) → ((x : List ℕ) → act ≡ act_of.Prepare x → ⊥) → a ≡ None → act_in act ≡ first_of (accept_act a) (first_of (prepare_act p) (deliver_act d)) → (p ≡ None) × (act_in act ≡ deliver_act d)
 no_preparation act (Some c) p d h n e = cc
