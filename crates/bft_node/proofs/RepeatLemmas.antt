@@ -1,37 +1,32 @@
 -- What is sent again at the first tick after an opening.
-use Rattle.std.proofs.Common.{◌≡◌, ℕ, Bool, true, false, List, [], ◌∷◌, ◌++◌, length, map, Option, Some, None, Result, Ok, Err, IsErrAnd, inl, refl, sym, ap, subst, ◌∙◌, append_assoc}
+use Rattle.std.proofs.Common.{◌≡◌, ℕ, Bool, true, false, List, [], ◌∷◌, ◌++◌, length, map, Option, Some, None, Result, refl, sym, ap, subst, ◌∙◌, append_assoc}
 use Rattle.std.specs.List.{flat_map}
 use Rattle.std.specs.Prelude.{if◌then◌else◌}
 use Rattle.std.proofs.lemmas.List.{append-nil}
 use Rattle.ord_types.specs.Hashes.{block_hash}
 use Rattle.ord_types.specs.declared.values.Block.{Block}
 use Rattle.ord_types.specs.declared.values.Place.{Place}
-use Rattle.ord_types.specs.declared.values.Sig.{Sig}
 use Rattle.gate_log.specs.Disk.{State}
 use Rattle.signer_edge.specs.Accepts.{Accepts}
 use Rattle.signer_edge.specs.Signing.{KeepsAccepted}
-use Rattle.signer_edge.specs.Statements.{commit_text}
-use Rattle.signer_edge.specs.declared.signing.SignFault.{SignFault}
 use Rattle.bft_wire.specs.declared.message.Message.TheVariants as wire
 use Rattle.block_ledger.specs.Chains.{IsChain}
 use Rattle.block_ledger.specs.Places.{place_after}
 use Rattle.block_ledger.proofs.Linking.{chain_stays}
 use Rattle.node_model.specs.declared.act.Act.{Act}
 use Rattle.node_model.specs.declared.act.Act.TheVariants as act_of
-use Rattle.node_model.specs.declared.letter.Letter.{Letter}
 use Rattle.node_model.specs.Acts.{View}
-use Rattle.node_model.specs.Answers.{after_act, at_place, kept_after}
+use Rattle.node_model.specs.Answers.{after_act}
 use Rattle.node_model.specs.Deeds.{Deed}
-use Rattle.node_model.specs.Letters.{Commit}
 use Rattle.node_model.specs.Restarts.{Found, current, is_current, repeat_round, repeated_votes, repeats_commit, repeats_if, repeats_votes}
 use Rattle.node_model.specs.Steps as steps
 use Rattle.node_model.specs.Steps.{commit_message, to_all}
 use Rattle.view_core.specs.Places.{StandsAt}
-use Rattle.bft_node.specs.Commits.{Commits, SignsAtMost, commit_at, own_letter, statement_at}
+use Rattle.bft_node.specs.Commits.{Commits, SignsAtMost, statement_at}
 use Rattle.bft_node.specs.Making.{Around, Before, GoesOn, IsFront, IsMade, IsStopped, Makes, Step, around, node_returns, node_ways, place_in, sent_of, text_of, view_in}
 use Rattle.bft_node.specs.NodeFaults.{IsNoLimit}
 use Rattle.bft_node.specs.Running.{IsReady, as_found, place_of}
-use Rattle.bft_node.specs.Signings.{EndsAt, Grows, KeysFit, Signing, Signs, keys_after, statements_in}
+use Rattle.bft_node.specs.Signings.{Grows, KeysFit, Signing, keys_after, statements_in}
 use Rattle.bft_node.specs.Stores.{config_of, held_of}
 use Rattle.bft_node.specs.declared.live.Found.{Found as Kept}
 use Rattle.bft_node.specs.declared.live.Out.{Out}
@@ -41,7 +36,7 @@ use Rattle.bft_node.specs.declared.store.Store.{Store}
 use Rattle.bft_node.proofs.ActLemmas.{sent_more}
 use Rattle.bft_node.proofs.CommitLemmas.{commit_accepts, commit_grows, commit_letter, commit_sends, commit_signed, commit_view, grows_last, same_statement}
 use Rattle.bft_node.proofs.MakingLemmas.{front_more, front_of, goes_accepting, made_before, stopped_with}
-use Rattle.bft_node.proofs.ViewLemmas.{at_place-at, me-kept_after}
+use Rattle.bft_node.proofs.ViewLemmas.{me-kept_after}
 
 -- A STEP THAT WAS GIVEN UP before its first deed, with these statements signed
 
@@ -69,7 +64,7 @@ module _ {K : Type 0} (accepts : K → Accepts) (keys : K) (digest : List ℕ) (
       → IsStopped b (repeats_commit node_returns b.keys digest m) (m.signed ++ statements_in signings) (accepts (keys_after keys signings)) tells moments fault
   commit_stopped most ready none grows fault no_limit =
       let first : IsFront (m.signed ++ statements_in signings) (repeats_commit node_returns b.keys digest m).signed =
-          (most.0, append_assoc m.signed (statements_in signings) most.0 ∙ ap (λ l. m.signed ++ l) most.1 ∙ ap (λ s. m.signed ++ s ∷ []) (same_statement old (place_in m) (view_in m) digest h.place h.view)) in
+      (most.0, append_assoc m.signed (statements_in signings) most.0 ∙ ap (λ l. m.signed ++ l) most.1 ∙ ap (λ s. m.signed ++ s ∷ []) (same_statement old (place_in m) (view_in m) digest h.place h.view)) in
       stopped_before b m (repeats_commit node_returns b.keys digest m) old (around (accepts keys) tells moments before) (m.signed ++ statements_in signings) (accepts (keys_after keys signings)) fault ready none refl
       (grows_last accepts keys signings grows) h first no_limit
 

@@ -35,9 +35,10 @@ returns g c =
         signings = s.signings;
         given = s.given;
         after = s.after;
-        what = λ tells moments b m ready none fit grows h.
-            (commit_repeated g.K.Verifier.accepts _ c.args.digest c.args.self.now c.args.out.now s.signings tells moments b m h _ _ _ _ c.requires.at s.what fit c.in_default.not-Accept c.in_default.not-Prepare grows,
-            commit_said g.K.Verifier.accepts _ c.args.digest c.args.self.now c.args.out.now s.signings tells moments b m h _ _ _ _ c.requires.at s.what fit);
+        what = λ tells moments b m ready none fit grows h. (
+          commit_repeated g.K.Verifier.accepts _ c.args.digest c.args.self.now c.args.out.now s.signings tells moments b m h _ _ _ _ c.requires.at s.what fit c.in_default.not-Accept c.in_default.not-Prepare grows,
+          commit_said g.K.Verifier.accepts _ c.args.digest c.args.self.now c.args.out.now s.signings tells moments b m h _ _ _ _ c.requires.at s.what fit,
+        );
       };
       later = c.commit.ensures.later;
       no_limit = tt;

@@ -13,8 +13,8 @@ pub returns-then-not-is_current-clause-makes : goal.returns-then-not-is_current-
 returns-then-not-is_current-clause-makes g c =
     signs_nothing g.K.Signer.sign_gives _ _ _
     (λ tells moments b m ready none fit grows h.
-      let is = sym c.if-not-is_current.true ∙ c.is_current.ensures _ refl in
-      (none_repeated b m c.args.self.now _ tells moments c.args.out.now h _ is, none_signed b m c.args.self.now _ tells moments c.args.out.now h _ is))
+    let is = sym c.if-not-is_current.true ∙ c.is_current.ensures _ refl in
+    (none_repeated b m c.args.self.now _ tells moments c.args.out.now h _ is, none_signed b m c.args.self.now _ tells moments c.args.out.now h _ is))
 
 pub returns-then-not-is_block-clause-makes : goal.returns-then-not-is_block-clause-makes
 returns-then-not-is_block-clause-makes g c =
@@ -25,27 +25,28 @@ pub returns-in_err-repeat_votes-clause-makes : goal.returns-in_err-repeat_votes-
 returns-in_err-repeat_votes-clause-makes g c =
     signs_nothing g.K.Signer.sign_gives _ _ _
     (λ tells moments b m ready none fit grows h.
-      given_up c.from_residual.result _ _ _ c.from_residual.ensures.1
-      (λ fault is. round_stopped b m c.args.self.now _ tells moments c.args.out.now h _ ready none fault (subst IsNoLimit (sym is) tt)))
+    given_up c.from_residual.result _ _ _ c.from_residual.ensures.1
+    (λ fault is. round_stopped b m c.args.self.now _ tells moments c.args.out.now h _ ready none fault (subst IsNoLimit (sym is) tt)))
 
 pub returns-then-found-clause-makes : goal.returns-then-found-clause-makes
 returns-then-found-clause-makes g c =
     signs_with g.K.Signer.sign_gives c.repeat_commit.result _ _ _ _
     (λ signings made tells moments b m ready none fit grows h.
-      let f : Found = record { config = c.args.found.now.config; view = c.args.found.now.view; height = c.args.found.now.height; block = c.args.found.now.block; is_prepared = c.args.found.now.is_prepared } in
-      let is = round_is b m c.args.self.now _ tells moments c.args.out.now h f (sym c.if-not-is_current.false ∙ c.is_current.ensures f refl) true c.if-found.true in
-      goes_as b c.repeat_commit.result c.repeat_commit.new.self _ _ _ tells moments _ _
-      (ap (λ d. repeats_commit node_returns b.keys d (repeats_votes node_ways f.block m)) c.block_hash.ensures ∙ is)
-      (made tells moments b (repeats_votes node_ways f.block m) ready none fit grows
-        (votes_repeated b m c.args.self.now _ tells moments c.args.out.now h f c.repeat_votes.new.out c.repeat_votes.ensures.facts c.repeat_votes.ensures.done c.in_ok-repeat_votes.ensures.sent)))
+    let f : Found = record { config = c.args.found.now.config; view = c.args.found.now.view; height = c.args.found.now.height; block = c.args.found.now.block; is_prepared = c.args.found.now.is_prepared } in
+    let is = round_is b m c.args.self.now _ tells moments c.args.out.now h f (sym c.if-not-is_current.false ∙ c.is_current.ensures f refl) true c.if-found.true in
+    goes_as b c.repeat_commit.result c.repeat_commit.new.self _ _ _ tells moments _ _
+    (ap (λ d. repeats_commit node_returns b.keys d (repeats_votes node_ways f.block m)) c.block_hash.ensures ∙ is)
+    (made tells moments b (repeats_votes node_ways f.block m) ready none fit grows
+    (votes_repeated b m c.args.self.now _ tells moments c.args.out.now h f c.repeat_votes.new.out c.repeat_votes.ensures.facts c.repeat_votes.ensures.done c.in_ok-repeat_votes.ensures.sent)))
     c.repeat_commit.ensures.makes
 
 pub returns-clause-makes : goal.returns-clause-makes
 returns-clause-makes g c =
     signs_nothing g.K.Signer.sign_gives _ _ _
     (λ tells moments b m ready none fit grows h.
-      let f : Found = record { config = c.args.found.now.config; view = c.args.found.now.view; height = c.args.found.now.height; block = c.args.found.now.block; is_prepared = c.args.found.now.is_prepared } in
-      let is = round_is b m c.args.self.now _ tells moments c.args.out.now h f (sym c.if-not-is_current.false ∙ c.is_current.ensures f refl) false c.if-found.false in
-      (subst (λ (n : Step). Makes b n act_of.Kept c.args.self.now (around (g.K.Verifier.accepts c.args.keys.now) tells moments c.repeat_votes.new.out)) is
-        (votes_repeated b m c.args.self.now _ tells moments c.args.out.now h f c.repeat_votes.new.out c.repeat_votes.ensures.facts c.repeat_votes.ensures.done c.in_ok-repeat_votes.ensures.sent),
-        ap (λ (n : Step). n.signed) (sym is) ∙ sym (append-nil m.signed)))
+    let f : Found = record { config = c.args.found.now.config; view = c.args.found.now.view; height = c.args.found.now.height; block = c.args.found.now.block; is_prepared = c.args.found.now.is_prepared } in
+    let is = round_is b m c.args.self.now _ tells moments c.args.out.now h f (sym c.if-not-is_current.false ∙ c.is_current.ensures f refl) false c.if-found.false in (
+      subst (λ (n : Step). Makes b n act_of.Kept c.args.self.now (around (g.K.Verifier.accepts c.args.keys.now) tells moments c.repeat_votes.new.out)) is
+          (votes_repeated b m c.args.self.now _ tells moments c.args.out.now h f c.repeat_votes.new.out c.repeat_votes.ensures.facts c.repeat_votes.ensures.done c.in_ok-repeat_votes.ensures.sent),
+      ap (λ (n : Step). n.signed) (sym is) ∙ sym (append-nil m.signed),
+    ))
