@@ -1,4 +1,5 @@
 mod ActLemmas
+mod CommitLemmas
 mod Folds
 mod GoingOn
 mod KeepingLemmas
@@ -9,6 +10,7 @@ mod PlaceLemmas
 mod Resumed
 mod RoundLemmas
 mod Running
+mod SigningLemmas
 mod SpelledLemmas
 mod Standings
 mod Stands

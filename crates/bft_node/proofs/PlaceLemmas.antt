@@ -1,5 +1,5 @@
 -- Where a delivery leaves a node.
-use Rattle.std.proofs.Common.{◌≡◌, ℕ, ◌+◌, ◌<◌, ◌≤◌, ◌^◌, List, [], ◌∷◌, ◌++◌, map, None, refl, sym, ap, subst, ◌∙◌, arith}
+use Rattle.std.proofs.Common.{◌≡◌, ℕ, ◌+◌, ◌<◌, ◌^◌, List, [], ◌∷◌, ◌++◌, map, None, refl, ap, subst, ◌∙◌, arith}
 use Rattle.ord_types.specs.Grammar.{HasBlockSpelling, HasCertSpelling}
 use Rattle.ord_types.specs.declared.values.Block.{Block}
 use Rattle.ord_types.specs.declared.values.Cert.{Cert}

@@ -1,17 +1,23 @@
 -- The votes and deliveries of a step, in the order in which they are told.
-use Rattle.std.proofs.Common.{◌≡◌, ℕ, List, [], Option, Some, None, refl, sym, ap, subst, ◌∙◌}
+use Rattle.std.proofs.Common.{◌≡◌, ℕ, zero, suc, Bool, true, false, is_some, List, [], ◌++◌, Option, Some, None, Result, refl, sym, ap, subst, ◌∙◌}
+use Rattle.std.proofs.lemmas.List.{append-nil}
 use Rattle.ord_types.specs.declared.values.Cert.{Cert}
+use Rattle.gate_log.specs.Disk.{State}
 use Rattle.safety_model.specs.Blocks.{Block}
+use Rattle.signer_edge.specs.Accepts.{Accepts}
 use Rattle.node_model.specs.declared.letter.VoteMessage.TheVariants as message_of
 use Rattle.node_model.specs.declared.letter.Letter.{Letter}
 use Rattle.node_model.specs.declared.act.Act.{Act}
 use Rattle.node_model.specs.declared.act.Act.TheVariants as act_of
 use Rattle.node_model.specs.Acts.{View, accept_act, acceptance_due, deliver_act, delivery_due, first_of, preparation_due, prepare_act}
 use Rattle.node_model.specs.Answers.{after_act}
-use Rattle.node_model.specs.Steps.{accept_round, commit_message, deliver_round, makes_accepted, makes_delivered, makes_prepared, prepare_round, rounds, votes}
-use Rattle.bft_node.specs.Making.{Around, Before, HasNoneToAccept, IsDelivery, IsDue, Makes, Step, Tells, accepted_in, act_in, node_ways, place_in, prepared_in, view_in}
+use Rattle.node_model.specs.Steps.{Keys, accept_round, commit_message, deliver_round, makes_accepted, makes_delivered, makes_prepared, prepare_round, rounds, votes}
+use Rattle.bft_node.specs.Making.{Around, Before, Ends, GoesOn, HasNoneToAccept, IsDelivery, IsDue, IsStopped, Makes, Step, Tells, accepted_in, act_in, is_delivering, node_ways, place_in, prepared_in, view_in}
 use Rattle.bft_node.specs.declared.live.Running.{Running}
-use Rattle.bft_node.proofs.MakingLemmas.{Makes-view}
+use Rattle.bft_node.specs.declared.node_fault.NodeFault.{NodeFault}
+use Rattle.bft_node.proofs.ActLemmas.{extends_accepted, extends_delivered}
+use Rattle.bft_node.proofs.CommitLemmas.{extends_prepared}
+use Rattle.bft_node.proofs.MakingLemmas.{Extends, Makes-view, extends_same, extends_then, goes_on, stopped_more, stopped_tells}
 use Rattle.bft_node.proofs.ViewLemmas.{acceptance_due-accepted, acceptance_due-told, accepted-kept_after, is_prepared-kept_after, preparation_due-accepted, preparation_due-prepared, preparation_due-told}
 
 delivery-due : (o : Option (Block × Cert)) (block : Block) (cert : Cert) → Some (act_of.Deliver block cert) ≡ deliver_act o → o ≡ Some (block, cert)
@@ -110,7 +116,104 @@ prepared_in-none b m told h d n =
     let parts = no_preparation told (acceptance_due (b.keys.accepts m.signed) (place_in m) (view_in m)) (preparation_due (place_in m) (view_in m)) (delivery_due (place_in m) (view_in m)) h n d in
     (ap (λ o. prepare_round node_ways b.keys o m) parts.0, parts.1)
 
+pub prepared_in-ends : (b : Before) (m : Step) (told next : Act) (digest : List ℕ) (node : Running) (outside : Around) → told ≡ act_of.Prepare digest → IsDue b m told → Tells b (makes_prepared node_ways b.keys digest m) next node outside → Ends b (prepared_in b m) next node outside
+prepared_in-ends b m told next digest node outside e d t =
+    let p = (preparation_due-told (b.keys.accepts m.signed) (place_in m) (view_in m) digest (ap act_in (sym e) ∙ d)).1 in
+    let ends : Ends b (makes_prepared node_ways b.keys digest m) next node outside = record { makes = t.makes; due = delivery_after b m digest next p t.due } in
+    subst (λ (x : Step). Ends b x next node outside) (sym (prepared_in-told b m told digest e d)) ends
+
+pub prepared_in-nothing : (b : Before) (m : Step) (told : Act) (node : Running) (outside : Around) → ((x : List ℕ) → told ≡ act_of.Prepare x → ⊥) → HasNoneToAccept b m → Tells b m told node outside → Ends b (prepared_in b m) told node outside
+prepared_in-nothing b m told node outside h n t =
+    let none = prepared_in-none b m told h t.due n in
+    let ends : Ends b m told node outside = record { makes = t.makes; due = none.1 } in
+    subst (λ (x : Step). Ends b x told node outside) (sym none.0) ends
+
+-- what a preparation makes, by what is due
+pub prepared_in-goes : (result : Result Act NodeFault) (b : Before) (m : Step) (told : Act) (digest : List ℕ) (new : Running) (a : Around) (signed : List (List ℕ)) (accepts : Accepts) (tells : Bool) (moments : List State) → told ≡ act_of.Prepare digest → IsDue b m told
+    → GoesOn result (λ next. Tells b (makes_prepared node_ways b.keys digest m) next new a × ((makes_prepared node_ways b.keys digest m).signed ≡ signed)) (λ fault. IsStopped b (makes_prepared node_ways b.keys digest m) signed accepts tells moments fault)
+    → GoesOn result (λ next. Ends b (prepared_in b m) next new a × ((prepared_in b m).signed ≡ signed)) (λ fault. IsStopped b (prepared_in b m) signed accepts tells moments fault)
+prepared_in-goes result b m told digest new a signed accepts tells moments e d h =
+    let same = prepared_in-told b m told digest e d in
+    goes_on result _ _ _ _ h (λ next t. (prepared_in-ends b m told next digest new a e d t.0, ap (λ (x : Step). x.signed) same ∙ t.1))
+    (λ fault s. subst (λ (x : Step). IsStopped b x signed accepts tells moments fault) (sym same) s)
+
+-- nothing is to be prepared
+pub prepared_in-still : (b : Before) (m : Step) (told : Act) (node : Running) (outside : Around) → ((x : List ℕ) → told ≡ act_of.Prepare x → ⊥) → HasNoneToAccept b m → Tells b m told node outside
+    → Ends b (prepared_in b m) told node outside × ((prepared_in b m).signed ≡ m.signed ++ [])
+prepared_in-still b m told node outside h n t =
+    (prepared_in-nothing b m told node outside h n t, ap (λ (x : Step). x.signed) (prepared_in-none b m told h t.due n).0 ∙ sym (append-nil m.signed))
+
+-- VOTES
+
+accepted-signed : (m : Step) (o : Option Block) → (accept_round node_ways o m).signed ≡ m.signed
+accepted-signed m None = refl
+accepted-signed m (Some block) = refl
+
+-- an acceptance signs nothing
+pub accepted_in-signed : (b : Before) (m : Step) → (accepted_in b m).signed ≡ m.signed
+accepted_in-signed b m = accepted-signed m (acceptance_due (b.keys.accepts m.signed) (place_in m) (view_in m))
+
+extends-accept : (m : Step) (o : Option Block) → Extends m (accept_round node_ways o m)
+extends-accept m None = extends_same m
+extends-accept m (Some block) = extends_accepted m block []
+
+extends-prepare : (keys : Keys) (m : Step) (o : Option (List ℕ)) → Extends m (prepare_round node_ways keys o m)
+extends-prepare keys m None = extends_same m
+extends-prepare keys m (Some digest) = extends_prepared keys m digest
+
+-- the votes of a step whose acceptances are made
+pub extends_accepted_votes : (b : Before) (m : Step) → Extends (accepted_in b m) (votes node_ways b.keys m)
+extends_accepted_votes b m = extends-prepare b.keys (accepted_in b m) (preparation_due (place_in (accepted_in b m)) (view_in (accepted_in b m)))
+
+pub extends_votes : (keys : Keys) (m : Step) → Extends m (votes node_ways keys m)
+extends_votes keys m =
+    let accepted : Step = accept_round node_ways (acceptance_due (keys.accepts m.signed) (place_in m) (view_in m)) m in
+    extends_then m accepted (votes node_ways keys m) (extends-accept m (acceptance_due (keys.accepts m.signed) (place_in m) (view_in m)))
+    (extends-prepare keys accepted (preparation_due (place_in accepted) (view_in accepted)))
+
+-- what follows an acceptance, which signs nothing
+pub votes-goes : (result : Result Act NodeFault) (b : Before) (m : Step) (new : Running) (a : Around) (statements : List (List ℕ)) (accepts : Accepts) (t u : Bool) (moments : List State) → u ≡ t
+    → GoesOn result (λ next. Ends b (prepared_in b (accepted_in b m)) next new a × ((prepared_in b (accepted_in b m)).signed ≡ (accepted_in b m).signed ++ statements)) (λ fault. IsStopped b (prepared_in b (accepted_in b m)) ((accepted_in b m).signed ++ statements) accepts t moments fault)
+    → GoesOn result (λ next. Ends b (votes node_ways b.keys m) next new a × ((votes node_ways b.keys m).signed ≡ m.signed ++ statements)) (λ fault. IsStopped b (votes node_ways b.keys m) (m.signed ++ statements) accepts u moments fault)
+votes-goes result b m new a statements accepts t u moments same h =
+    goes_on result _ _ _ _ h (λ next e. (e.0, e.1 ∙ ap (λ (l : List (List ℕ)). l ++ statements) (accepted_in-signed b m)))
+    (λ fault s. stopped_tells b (votes node_ways b.keys m) (m.signed ++ statements) accepts t u moments fault same
+    (subst (λ (l : List (List ℕ)). IsStopped b (votes node_ways b.keys m) (l ++ statements) accepts t moments fault) (accepted_in-signed b m) s))
+
+-- an acceptance that was given up
+pub votes-stopped : (b : Before) (m : Step) (accepts : Accepts) (tells : Bool) (moments : List State) (fault : NodeFault) → IsStopped b (accepted_in b m) m.signed accepts tells moments fault → IsStopped b (votes node_ways b.keys m) (m.signed ++ []) accepts tells moments fault
+votes-stopped b m accepts tells moments fault s =
+    subst (λ (l : List (List ℕ)). IsStopped b (votes node_ways b.keys m) l accepts tells moments fault) (sym (append-nil m.signed))
+    (stopped_more b (accepted_in b m) (votes node_ways b.keys m) m.signed accepts tells moments fault (extends_accepted_votes b m) s)
+
 -- ROUNDS
+
+extends-deliver : (m : Step) (o : Option (Block × Cert)) (rest : Step → Step) → ((n : Step) → Extends n (rest n)) → Extends m (deliver_round node_ways o m rest)
+extends-deliver m None rest more = extends_same m
+extends-deliver m (Some d) rest more = extends_then m (makes_delivered node_ways d.0 d.1 m) (rest (makes_delivered node_ways d.0 d.1 m)) (extends_delivered m d.0 d.1) (more (makes_delivered node_ways d.0 d.1 m))
+
+pub extends_rounds : (keys : Keys) (n : ℕ) (m : Step) → Extends m (rounds node_ways keys n m)
+extends_rounds keys zero m = extends_same m
+extends_rounds keys (suc n) m =
+    let voted : Step = votes node_ways keys m in
+    extends_then m voted (rounds node_ways keys (suc n) m) (extends_votes keys m)
+    (extends-deliver voted (delivery_due (place_in voted) (view_in voted)) (λ x. rounds node_ways keys n x) (λ x. extends_rounds keys n x))
+
+-- the rounds of a step whose votes are made
+pub extends_voted : (keys : Keys) (n : ℕ) (m : Step) → Extends (votes node_ways keys m) (rounds node_ways keys (suc n) m)
+extends_voted keys n m =
+    let voted : Step = votes node_ways keys m in
+    extends-deliver voted (delivery_due (place_in voted) (view_in voted)) (λ x. rounds node_ways keys n x) (λ x. extends_rounds keys n x)
+
+extends-further : (keys : Keys) (voted : Step) (o : Option (Block × Cert)) → Extends (deliver_round node_ways o voted (λ x. x)) (deliver_round node_ways o voted (λ x. rounds node_ways keys 1 x))
+extends-further keys voted None = extends_same voted
+extends-further keys voted (Some d) = extends_rounds keys 1 (makes_delivered node_ways d.0 d.1 voted)
+
+-- two rounds where one is made
+pub extends_round : (keys : Keys) (m : Step) → Extends (rounds node_ways keys 1 m) (rounds node_ways keys 2 m)
+extends_round keys m =
+    let voted : Step = votes node_ways keys m in
+    extends-further keys voted (delivery_due (place_in voted) (view_in voted))
 
 ends : (next : Act) (o : Option (Block × Cert)) (w : View) → ((x : Block) (y : Cert) → next ≡ act_of.Deliver x y → ⊥) → act_in next ≡ deliver_act o → (o ≡ None) × (w ≡ after_act next w)
 ends (act_of.Accept b) None w h e = cc
@@ -133,40 +236,72 @@ Makes-ends b m next node outside h d s =
 pub delivery-told : (m : Step) (next : Act) (block : Block) (cert : Cert) → next ≡ act_of.Deliver block cert → IsDelivery m next → delivery_of m ≡ Some (block, cert)
 delivery-told m next block cert e d = delivery-due (delivery_of m) block cert (ap act_in (sym e) ∙ d)
 
-abbrev voted : Before → Step → Step
-voted b m = votes node_ways b.keys m
+-- ONE ROUND
 
-abbrev next_votes : Before → Step → Block → Cert → Step
-next_votes b m block cert = voted b (makes_delivered node_ways block cert (voted b m))
+one-none : (voted : Step) (o : Option (Block × Cert)) (rest : Step → Step) → o ≡ None → deliver_round node_ways o voted rest ≡ voted
+one-none voted o rest e = ap (λ d. deliver_round node_ways d voted rest) e
 
-rounds-none : (b : Before) (m : Step) → delivery_of (voted b m) ≡ None → rounds node_ways b.keys 2 m ≡ voted b m
-rounds-none b m e = ap (λ o. deliver_round node_ways o (voted b m) (λ delivered. rounds node_ways b.keys 1 delivered)) e
+one-some : (voted : Step) (o : Option (Block × Cert)) (block : Block) (cert : Cert) (rest : Step → Step) → o ≡ Some (block, cert) → deliver_round node_ways o voted rest ≡ rest (makes_delivered node_ways block cert voted)
+one-some voted o block cert rest e = ap (λ d. deliver_round node_ways d voted rest) e
 
-rounds-first : (b : Before) (m : Step) (block : Block) (cert : Cert) → delivery_of (voted b m) ≡ Some (block, cert) → rounds node_ways b.keys 2 m ≡ rounds node_ways b.keys 1 (makes_delivered node_ways block cert (voted b m))
-rounds-first b m block cert e = ap (λ o. deliver_round node_ways o (voted b m) (λ delivered. rounds node_ways b.keys 1 delivered)) e
+none-delivers : (o : Option (Block × Cert)) → o ≡ None → false ≡ is_some o
+none-delivers o e = ap is_some (sym e)
 
-rounds-one : (b : Before) (m : Step) → delivery_of (voted b m) ≡ None → rounds node_ways b.keys 1 m ≡ voted b m
-rounds-one b m e = ap (λ o. deliver_round node_ways o (voted b m) (λ delivered. rounds node_ways b.keys 0 delivered)) e
+some-delivers : (o : Option (Block × Cert)) (d : Block × Cert) → o ≡ Some d → true ≡ is_some o
+some-delivers o d e = ap is_some (sym e)
 
-rounds-last : (b : Before) (m : Step) (block : Block) (cert : Cert) → delivery_of (voted b m) ≡ Some (block, cert) → rounds node_ways b.keys 1 m ≡ makes_delivered node_ways block cert (voted b m)
-rounds-last b m block cert e = ap (λ o. deliver_round node_ways o (voted b m) (λ delivered. rounds node_ways b.keys 0 delivered)) e
+-- no delivery is due
+pub round-none : (b : Before) (m : Step) (next : Act) (node : Running) (outside : Around) (signed : List (List ℕ)) → ((x : Block) (y : Cert) → next ≡ act_of.Deliver x y → ⊥) → Ends b (votes node_ways b.keys m) next node outside
+    → (votes node_ways b.keys m).signed ≡ signed → Makes b (rounds node_ways b.keys 1 m) act_of.Kept node outside × ((rounds node_ways b.keys 1 m).signed ≡ signed) × (false ≡ is_delivering b m)
+round-none b m next node outside signed h s e =
+    let voted : Step = votes node_ways b.keys m in
+    let ended = Makes-ends b voted next node outside h s.due s.makes in
+    let same = one-none voted (delivery_of voted) (λ x. rounds node_ways b.keys 0 x) ended.0 in
+    (subst (λ (x : Step). Makes b x act_of.Kept node outside) (sym same) ended.1, ap (λ (x : Step). x.signed) same ∙ e, none-delivers (delivery_of voted) ended.0)
 
--- no delivery
-pub rounds-no : (b : Before) (m : Step) (next : Act) (node : Running) (outside : Around) → ((x : Block) (y : Cert) → next ≡ act_of.Deliver x y → ⊥) → IsDelivery (voted b m) next → Makes b (voted b m) next node outside → Makes b (rounds node_ways b.keys 2 m) act_of.Kept node outside
-rounds-no b m next node outside h d s =
-    let e = Makes-ends b (voted b m) next node outside h d s in
-    subst (λ (x : Step). Makes b x act_of.Kept node outside) (sym (rounds-none b m e.0)) e.1
+-- the delivery that is told is the round's
+pub round-some : (b : Before) (m : Step) (next : Act) (block : Block) (cert : Cert) → next ≡ act_of.Deliver block cert → IsDelivery (votes node_ways b.keys m) next → rounds node_ways b.keys 1 m ≡ makes_delivered node_ways block cert (votes node_ways b.keys m)
+round-some b m next block cert e d =
+    let voted : Step = votes node_ways b.keys m in
+    one-some voted (delivery_of voted) block cert (λ x. rounds node_ways b.keys 0 x) (delivery-told voted next block cert e d)
 
--- one delivery
-pub rounds-single : (b : Before) (m : Step) (told next : Act) (block : Block) (cert : Cert) (node : Running) (outside : Around) → told ≡ act_of.Deliver block cert → IsDelivery (voted b m) told → ((x : Block) (y : Cert) → next ≡ act_of.Deliver x y → ⊥) → IsDelivery (next_votes b m block cert) next → Makes b (next_votes b m block cert) next node outside → Makes b (rounds node_ways b.keys 2 m) act_of.Kept node outside
-rounds-single b m told next block cert node outside t p h d s =
-    let e = Makes-ends b (next_votes b m block cert) next node outside h d s in
-    let f = rounds-first b m block cert (delivery-told (voted b m) told block cert t p) in
-    subst (λ (x : Step). Makes b x act_of.Kept node outside) (sym (f ∙ rounds-one b (makes_delivered node_ways block cert (voted b m)) e.0)) e.1
+pub round-delivers : (b : Before) (m : Step) (next : Act) (block : Block) (cert : Cert) → next ≡ act_of.Deliver block cert → IsDelivery (votes node_ways b.keys m) next → true ≡ is_delivering b m
+round-delivers b m next block cert e d =
+    let voted : Step = votes node_ways b.keys m in
+    some-delivers (delivery_of voted) (block, cert) (delivery-told voted next block cert e d)
 
--- two deliveries
-pub rounds-both : (b : Before) (m : Step) (told next : Act) (block : Block) (cert : Cert) (second : Block) (proof : Cert) (node : Running) (outside : Around) → told ≡ act_of.Deliver block cert → IsDelivery (voted b m) told → next ≡ act_of.Deliver second proof → IsDelivery (next_votes b m block cert) next → Makes b (makes_delivered node_ways second proof (next_votes b m block cert)) act_of.Kept node outside → Makes b (rounds node_ways b.keys 2 m) act_of.Kept node outside
-rounds-both b m told next block cert second proof node outside t p n d s =
-    let f = rounds-first b m block cert (delivery-told (voted b m) told block cert t p) in
-    let g = rounds-last b (makes_delivered node_ways block cert (voted b m)) second proof (delivery-told (next_votes b m block cert) next second proof n d) in
-    subst (λ (x : Step). Makes b x act_of.Kept node outside) (sym (f ∙ g)) s
+-- TWO ROUNDS
+
+second-none : (keys : Keys) (voted : Step) (o : Option (Block × Cert)) → is_some o ≡ false → deliver_round node_ways o voted (λ x. rounds node_ways keys 1 x) ≡ deliver_round node_ways o voted (λ x. x)
+second-none keys voted None e = refl
+second-none keys voted (Some d) e = absurd (cc (e))
+
+second-some : (keys : Keys) (voted : Step) (o : Option (Block × Cert)) → is_some o ≡ true → deliver_round node_ways o voted (λ x. rounds node_ways keys 1 x) ≡ rounds node_ways keys 1 (deliver_round node_ways o voted (λ x. x))
+second-some keys voted None e = absurd (cc (e))
+second-some keys voted (Some d) e = refl
+
+-- after a round without a delivery nothing is due
+pub rounds-one : (b : Before) (m : Step) → is_delivering b m ≡ false → rounds node_ways b.keys 2 m ≡ rounds node_ways b.keys 1 m
+rounds-one b m e =
+    let voted : Step = votes node_ways b.keys m in
+    second-none b.keys voted (delivery_of voted) e
+
+-- after one with a delivery comes one more
+pub rounds-two : (b : Before) (m : Step) → is_delivering b m ≡ true → rounds node_ways b.keys 2 m ≡ rounds node_ways b.keys 1 (rounds node_ways b.keys 1 m)
+rounds-two b m e =
+    let voted : Step = votes node_ways b.keys m in
+    second-some b.keys voted (delivery_of voted) e
+
+-- WHAT A ROUND LEAVES
+
+pub round-ends : (b : Before) (m : Step) (next : Act) (block : Block) (cert : Cert) (node : Running) (outside : Around) (signed : List (List ℕ)) → next ≡ act_of.Deliver block cert → IsDelivery (votes node_ways b.keys m) next
+    → Makes b (makes_delivered node_ways block cert (votes node_ways b.keys m)) act_of.Kept node outside → (votes node_ways b.keys m).signed ≡ signed
+    → Makes b (rounds node_ways b.keys 1 m) act_of.Kept node outside × ((rounds node_ways b.keys 1 m).signed ≡ signed) × (true ≡ is_delivering b m)
+round-ends b m next block cert node outside signed e d made s =
+    let same = round-some b m next block cert e d in
+    (subst (λ (x : Step). Makes b x act_of.Kept node outside) (sym same) made, ap (λ (x : Step). x.signed) same ∙ s, round-delivers b m next block cert e d)
+
+-- by another name
+pub rounds-made : (b : Before) (m n : Step) (node : Running) (outside : Around) (signed : List (List ℕ)) → rounds node_ways b.keys 2 m ≡ n → Makes b n act_of.Kept node outside → n.signed ≡ signed
+    → Makes b (rounds node_ways b.keys 2 m) act_of.Kept node outside × ((rounds node_ways b.keys 2 m).signed ≡ signed)
+rounds-made b m n node outside signed same made s = (subst (λ (x : Step). Makes b x act_of.Kept node outside) (sym same) made, ap (λ (x : Step). x.signed) same ∙ s)

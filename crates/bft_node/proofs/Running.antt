@@ -100,7 +100,7 @@ ledger_others P before state only file no_log no_ledger = only.others file no_le
 
 -- ONE RUN AFTER ANOTHER
 
-behind : (first more : List Deed) (n : ℕ) (held : Held) → with_deeds (take (length first + n) (first ++ more)) held ≡ with_deeds (take n more) (with_deeds first held)
+pub behind : (first more : List Deed) (n : ℕ) (held : Held) → with_deeds (take (length first + n) (first ++ more)) held ≡ with_deeds (take n more) (with_deeds first held)
 behind [] more n held = let e : 0 + n ≡ n = omega arith in ap (λ m. with_deeds (take m more) held) e
 behind (deed ∷ first) more n held =
     let e : length (deed ∷ first) + n ≡ suc (length first + n) = omega arith in

@@ -1,7 +1,5 @@
 -- A deed that was made durable and told.
-use Rattle.std.specs.Prelude.{◌≡◌, ℕ, ◌<◌, ◌^◌, Bool, List, [], ◌∷◌, ◌++◌, IsTrue, length}
-use Rattle.ord_types.specs.declared.values.Cert.{Cert}
-use Rattle.ord_types.specs.declared.values.Block.{Block}
+use Rattle.std.specs.Prelude.{◌≡◌, Bool, List, [], ◌∷◌, ◌++◌, IsTrue}
 use Rattle.gate_log.specs.Disk.{State}
 use Rattle.gate_log.specs.Runs.{Went}
 use Rattle.signer_edge.specs.Accepts.{Accepts}

@@ -1,5 +1,5 @@
 -- What a step of a node has made so far, in the code and by its definition.
-use Rattle.std.specs.Prelude.{◌≡◌, ℕ, suc, ◌+◌, ◌≤◌, Bool, true, false, List, [], ◌∷◌, ◌++◌, length, take, drop, map, Option, Some, None, Result, Ok, Err, IsTrue}
+use Rattle.std.specs.Prelude.{◌≡◌, ℕ, suc, ◌+◌, ◌≤◌, Bool, true, false, List, [], ◌∷◌, ◌++◌, length, take, drop, map, Option, Some, None, is_some, Result, Ok, Err, IsTrue}
 use Rattle.std.specs.List.{count_by, flat_map}
 use Rattle.ord_types.specs.declared.values.Config.{Config}
 use Rattle.ord_types.specs.declared.values.Place.{Place}
@@ -17,9 +17,9 @@ use Rattle.node_model.specs.declared.act.Act.TheVariants as act_of
 use Rattle.node_model.specs.Acts.{View, acceptance_due, preparation_due, due, deliver_act, delivery_due}
 use Rattle.node_model.specs.Answers.{after_act}
 use Rattle.node_model.specs.Deeds.{Deed, Accepts as Accepted, Prepares, Delivers, Logged, logged}
-use Rattle.node_model.specs.Restarts.{Found, Returned, Returns, returned_returns}
+use Rattle.node_model.specs.Restarts.{Returned, Returns, returned_returns}
 use Rattle.node_model.specs.Steps as steps
-use Rattle.node_model.specs.Steps.{Keys, Making, Ways, accept_round, prepare_round}
+use Rattle.node_model.specs.Steps.{Keys, Making, Ways, accept_round, prepare_round, votes}
 use Rattle.bft_node.specs.Crashes.{Image, IsCrash, Opens, Within}
 use Rattle.bft_node.specs.Held.{Held, with_deeds}
 use Rattle.bft_node.specs.Running.{as_found, place_of}
@@ -187,6 +187,12 @@ accepted_in b m = accept_round node_ways (acceptance_due (b.keys.accepts m.signe
 -- with what is to be prepared
 abbrev pub prepared_in : Before → Step → Step
 prepared_in b m = prepare_round node_ways b.keys (preparation_due (place_in m) (view_in m)) m
+
+-- after its votes a delivery is due
+abbrev pub is_delivering : Before → Step → Bool
+is_delivering b m =
+    let voted : Step = votes node_ways b.keys m in
+    is_some (delivery_due (place_in voted) (view_in voted))
 
 -- no vote is due, so the told act is the delivery that is due, if one is
 abbrev pub IsDelivery : Step → Act → Type 0

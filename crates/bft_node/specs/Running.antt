@@ -1,5 +1,5 @@
 -- What a running node stands for, and what it keeps true.
-use Rattle.std.specs.Prelude.{◌≡◌, ℕ, Bool, List, Option, map, IsTrue}
+use Rattle.std.specs.Prelude.{◌≡◌, Bool, List, Option, IsTrue}
 use Rattle.std.specs.Option.{option_map}
 use Rattle.ord_types.specs.Grammar.{IsNumber}
 use Rattle.ord_types.specs.declared.values.Place.{Place}
@@ -40,3 +40,8 @@ pub record IsSound (r : Running) : Type 0 where
 pub record IsReady (tells : Bool) (moments : List State) (r : Running) : Type 0 where
   pub sound : IsSound r
   pub kept : IsTrue tells → IsKept r.store (now moments)
+
+-- It is the same node, in the chain of the same first configuration.
+pub record IsSame (old new : Running) : Type 0 where
+  pub id : new.id ≡ old.id
+  pub config : config_of new.store ≡ config_of old.store

@@ -6,9 +6,9 @@ ghost use Rattle.node_model.specs.declared.act.Act.TheVariants as act_of;
 ghost use Rattle.node_model.specs.Steps.{makes_accepted, makes_delivered, makes_prepared, rounds, votes};
 ghost use Rattle.view_core.specs.Fits.{FitsAct};
 ghost use Rattle.bft_node.specs.Commits.{Commits, SignsAtMost, commit_at, statement_at};
-ghost use Rattle.bft_node.specs.Making.{Around, Before, Ends, GoesOn, HasNoneToAccept, IsStopped, Makes, Step, Tells, accepted_in, around, node_ways, prepared_in};
+ghost use Rattle.bft_node.specs.Making.{Around, Before, Ends, GoesOn, HasNoneToAccept, IsStopped, Makes, Step, Tells, accepted_in, around, is_delivering, node_ways, prepared_in};
 ghost use Rattle.bft_node.specs.NodeFaults.{HasNodeCause, IsNoLimit, counts};
-ghost use Rattle.bft_node.specs.Running.{IsReady, IsSound};
+ghost use Rattle.bft_node.specs.Running.{IsReady, IsSame, IsSound};
 ghost use Rattle.bft_node.specs.Signings.{Grows, KeysFit, Signs, keys_after, statements_in};
 
 use crate::NodeFault;
@@ -23,6 +23,7 @@ impl Running {
     /// The act that is due now.
     pub(crate) fn told<V: Verifier>(&mut self, keys: &V) -> Result<Act, NoMemory>
         requires { IsSound self.old }
+        ensures same { IsSame self.old self.new }
         ensures sound { IsSound self.new }
         ensures ready { (tells : Bool) (moments : Items State) → IsReady tells moments self.old → IsReady tells moments self.new }
         ensures fits { IfOk result FitsAct }
@@ -40,6 +41,7 @@ impl Running {
         out: &mut Out,
     ) -> Result<Act, NodeFault>
         requires { IsReady (D.tells disk.old) (D.moments disk.old) self.old }
+        ensures same { OnOk result (IsSame self.old self.new) }
         ensures ready { OnOk result (IsReady (D.tells disk.new) (D.moments disk.new) self.new) }
         ensures fits { IfOk result FitsAct }
         ensures makes { (b : Before) (m : Step) → Makes b m (act_of.Accept block) self.old (around (V.accepts keys.now) (D.tells disk.old) (D.moments disk.old) out.old) → GoesOn result (λ told. Tells b (makes_accepted node_ways block [] m) told self.new (around (V.accepts keys.now) (D.tells disk.new) (D.moments disk.new) out.new)) (λ fault. IsStopped b (makes_accepted node_ways block [] m) m.signed (V.accepts keys.now) (D.tells disk.old) (D.moments disk.new) fault) }
@@ -85,6 +87,7 @@ impl Running {
         out: &mut Out,
     ) -> Result<Act, NodeFault>
         requires { IsSound self.old }
+        ensures same { IsSame self.old self.new }
         ensures sound { IsSound self.new }
         ensures ready { (tells : Bool) (moments : Items State) → IsReady tells moments self.old → IsReady tells moments self.new }
         ensures fits { IfOk result FitsAct }
@@ -110,9 +113,10 @@ impl Running {
         out: &mut Out,
     ) -> Result<Act, NodeFault>
         requires { IsReady (D.tells disk.old) (D.moments disk.old) self.old }
+        ensures same { OnOk result (IsSame self.old self.new) }
         ensures ready { OnOk result (IsReady (D.tells disk.new) (D.moments disk.new) self.new) }
         ensures fits { IfOk result FitsAct }
-        ensures makes { Signs K.sign_gives result keys.old keys.new (λ signings. (b : Before) (m : Step) → KeysFit K.accepts b.keys m.signed keys.old signings → Grows K.accepts keys.old signings → Makes b m (act_of.Prepare digest) self.old (around (K.accepts keys.old) (D.tells disk.old) (D.moments disk.old) out.old) → GoesOn result (λ told. Tells b (makes_prepared node_ways b.keys digest m) told self.new (around (K.accepts keys.new) (D.tells disk.new) (D.moments disk.new) out.new)) (λ fault. IsStopped b (makes_prepared node_ways b.keys digest m) (m.signed ++ statements_in signings) (K.accepts (keys_after keys.old signings)) (D.tells disk.old) (D.moments disk.new) fault)) }
+        ensures makes { Signs K.sign_gives result keys.old keys.new (λ signings. (b : Before) (m : Step) → KeysFit K.accepts b.keys m.signed keys.old signings → Grows K.accepts keys.old signings → Makes b m (act_of.Prepare digest) self.old (around (K.accepts keys.old) (D.tells disk.old) (D.moments disk.old) out.old) → GoesOn result (λ told. Tells b (makes_prepared node_ways b.keys digest m) told self.new (around (K.accepts keys.new) (D.tells disk.new) (D.moments disk.new) out.new) × ((makes_prepared node_ways b.keys digest m).signed ≡ m.signed ++ statements_in signings)) (λ fault. IsStopped b (makes_prepared node_ways b.keys digest m) (m.signed ++ statements_in signings) (K.accepts (keys_after keys.old signings)) (D.tells disk.old) (D.moments disk.new) fault)) }
         ensures tells { D.tells disk.new ≡ D.tells disk.old }
         ensures later { (D.faults disk.old ≤ D.faults disk.new) × (K.faults keys.old ≤ K.faults keys.new) }
         ensures cause { HasNodeCause (counts (D.faults disk.old) (K.faults keys.old)) (counts (D.faults disk.new) (K.faults keys.new)) result }
@@ -131,6 +135,7 @@ impl Running {
         out: &mut Out,
     ) -> Result<(), NodeFault>
         requires { IsReady (D.tells disk.old) (D.moments disk.old) self.old }
+        ensures same { OnOk result (IsSame self.old self.new) }
         ensures ready { OnOk result (IsReady (D.tells disk.new) (D.moments disk.new) self.new) }
         ensures makes { (b : Before) (m : Step) → Makes b m (act_of.Deliver block cert) self.old (around (V.accepts keys.now) (D.tells disk.old) (D.moments disk.old) out.old) → GoesOn result (λ _. Makes b (makes_delivered node_ways block cert m) act_of.Kept self.new (around (V.accepts keys.now) (D.tells disk.new) (D.moments disk.new) out.new)) (λ fault. IsStopped b (makes_delivered node_ways block cert m) m.signed (V.accepts keys.now) (D.tells disk.old) (D.moments disk.new) fault) }
         ensures tells { D.tells disk.new ≡ D.tells disk.old }
@@ -152,6 +157,7 @@ impl Running {
     ) -> Result<Act, NodeFault>
         requires ready { IsReady (D.tells disk.old) (D.moments disk.old) self.old }
         requires fits { FitsAct told }
+        ensures same { OnOk result (IsSame self.old self.new) }
         ensures ready { OnOk result (IsReady (D.tells disk.new) (D.moments disk.new) self.new) }
         ensures fits { IfOk result FitsAct }
         ensures makes { (b : Before) (m : Step) → Tells b m told self.old (around (V.accepts keys.now) (D.tells disk.old) (D.moments disk.old) out.old) → GoesOn result (λ next. Tells b (accepted_in b m) next self.new (around (V.accepts keys.now) (D.tells disk.new) (D.moments disk.new) out.new)) (λ fault. IsStopped b (accepted_in b m) m.signed (V.accepts keys.now) (D.tells disk.old) (D.moments disk.new) fault) }
@@ -175,9 +181,10 @@ impl Running {
     ) -> Result<Act, NodeFault>
         requires ready { IsReady (D.tells disk.old) (D.moments disk.old) self.old }
         requires fits { FitsAct told }
+        ensures same { OnOk result (IsSame self.old self.new) }
         ensures ready { OnOk result (IsReady (D.tells disk.new) (D.moments disk.new) self.new) }
         ensures fits { IfOk result FitsAct }
-        ensures makes { Signs K.sign_gives result keys.old keys.new (λ signings. (b : Before) (m : Step) → KeysFit K.accepts b.keys m.signed keys.old signings → Grows K.accepts keys.old signings → Tells b m told self.old (around (K.accepts keys.old) (D.tells disk.old) (D.moments disk.old) out.old) → HasNoneToAccept b m → GoesOn result (λ next. Ends b (prepared_in b m) next self.new (around (K.accepts keys.new) (D.tells disk.new) (D.moments disk.new) out.new)) (λ fault. IsStopped b (prepared_in b m) (m.signed ++ statements_in signings) (K.accepts (keys_after keys.old signings)) (D.tells disk.old) (D.moments disk.new) fault)) }
+        ensures makes { Signs K.sign_gives result keys.old keys.new (λ signings. (b : Before) (m : Step) → KeysFit K.accepts b.keys m.signed keys.old signings → Grows K.accepts keys.old signings → Tells b m told self.old (around (K.accepts keys.old) (D.tells disk.old) (D.moments disk.old) out.old) → HasNoneToAccept b m → GoesOn result (λ next. Ends b (prepared_in b m) next self.new (around (K.accepts keys.new) (D.tells disk.new) (D.moments disk.new) out.new) × ((prepared_in b m).signed ≡ m.signed ++ statements_in signings)) (λ fault. IsStopped b (prepared_in b m) (m.signed ++ statements_in signings) (K.accepts (keys_after keys.old signings)) (D.tells disk.old) (D.moments disk.new) fault)) }
         ensures tells { D.tells disk.new ≡ D.tells disk.old }
         ensures later { (D.faults disk.old ≤ D.faults disk.new) × (K.faults keys.old ≤ K.faults keys.new) }
         ensures cause { HasNodeCause (counts (D.faults disk.old) (K.faults keys.old)) (counts (D.faults disk.new) (K.faults keys.new)) result }
@@ -198,15 +205,40 @@ impl Running {
     ) -> Result<Act, NodeFault>
         requires ready { IsReady (D.tells disk.old) (D.moments disk.old) self.old }
         requires fits { FitsAct told }
+        ensures same { OnOk result (IsSame self.old self.new) }
         ensures ready { OnOk result (IsReady (D.tells disk.new) (D.moments disk.new) self.new) }
         ensures fits { IfOk result FitsAct }
-        ensures makes { Signs K.sign_gives result keys.old keys.new (λ signings. (b : Before) (m : Step) → KeysFit K.accepts b.keys m.signed keys.old signings → Grows K.accepts keys.old signings → Tells b m told self.old (around (K.accepts keys.old) (D.tells disk.old) (D.moments disk.old) out.old) → GoesOn result (λ next. Ends b (votes node_ways b.keys m) next self.new (around (K.accepts keys.new) (D.tells disk.new) (D.moments disk.new) out.new)) (λ fault. IsStopped b (votes node_ways b.keys m) (m.signed ++ statements_in signings) (K.accepts (keys_after keys.old signings)) (D.tells disk.old) (D.moments disk.new) fault)) }
+        ensures makes { Signs K.sign_gives result keys.old keys.new (λ signings. (b : Before) (m : Step) → KeysFit K.accepts b.keys m.signed keys.old signings → Grows K.accepts keys.old signings → Tells b m told self.old (around (K.accepts keys.old) (D.tells disk.old) (D.moments disk.old) out.old) → GoesOn result (λ next. Ends b (votes node_ways b.keys m) next self.new (around (K.accepts keys.new) (D.tells disk.new) (D.moments disk.new) out.new) × ((votes node_ways b.keys m).signed ≡ m.signed ++ statements_in signings)) (λ fault. IsStopped b (votes node_ways b.keys m) (m.signed ++ statements_in signings) (K.accepts (keys_after keys.old signings)) (D.tells disk.old) (D.moments disk.new) fault)) }
         ensures tells { D.tells disk.new ≡ D.tells disk.old }
         ensures later { (D.faults disk.old ≤ D.faults disk.new) × (K.faults keys.old ≤ K.faults keys.new) }
         ensures cause { HasNodeCause (counts (D.faults disk.old) (K.faults keys.old)) (counts (D.faults disk.new) (K.faults keys.new)) result }
     {
         let told = self.acceptance(told, disk, keys, out)?;
         self.preparation(told, disk, keys, out)
+    }
+
+    /// Does the votes that are due, from a told act on, and then a delivery. The answer is whether one was due.
+    fn round<D: Disk, K: Signer + Verifier>(
+        &mut self,
+        told: Act,
+        disk: &mut D,
+        keys: &mut K,
+        out: &mut Out,
+    ) -> Result<bool, NodeFault>
+        requires ready { IsReady (D.tells disk.old) (D.moments disk.old) self.old }
+        requires fits { FitsAct told }
+        ensures same { OnOk result (IsSame self.old self.new) }
+        ensures ready { OnOk result (IsReady (D.tells disk.new) (D.moments disk.new) self.new) }
+        ensures makes { Signs K.sign_gives result keys.old keys.new (λ signings. (b : Before) (m : Step) → KeysFit K.accepts b.keys m.signed keys.old signings → Grows K.accepts keys.old signings → Tells b m told self.old (around (K.accepts keys.old) (D.tells disk.old) (D.moments disk.old) out.old) → GoesOn result (λ delivers. Makes b (rounds node_ways b.keys 1 m) act_of.Kept self.new (around (K.accepts keys.new) (D.tells disk.new) (D.moments disk.new) out.new) × ((rounds node_ways b.keys 1 m).signed ≡ m.signed ++ statements_in signings) × (delivers ≡ is_delivering b m)) (λ fault. IsStopped b (rounds node_ways b.keys 1 m) (m.signed ++ statements_in signings) (K.accepts (keys_after keys.old signings)) (D.tells disk.old) (D.moments disk.new) fault)) }
+        ensures tells { D.tells disk.new ≡ D.tells disk.old }
+        ensures later { (D.faults disk.old ≤ D.faults disk.new) × (K.faults keys.old ≤ K.faults keys.new) }
+        ensures cause { HasNodeCause (counts (D.faults disk.old) (K.faults keys.old)) (counts (D.faults disk.new) (K.faults keys.new)) result }
+    {
+        let Act::Deliver(block, cert) = self.votes(told, disk, keys, out)? else {
+            return Ok(false);
+        };
+        self.deliver(block, cert, disk, keys, out)?;
+        Ok(true)
     }
 
     /// Does all that is due from a told act on: votes, a delivery, and the same at the next number.
@@ -219,20 +251,17 @@ impl Running {
     ) -> Result<(), NodeFault>
         requires ready { IsReady (D.tells disk.old) (D.moments disk.old) self.old }
         requires fits { FitsAct told }
+        ensures same { OnOk result (IsSame self.old self.new) }
         ensures ready { OnOk result (IsReady (D.tells disk.new) (D.moments disk.new) self.new) }
-        ensures makes { Signs K.sign_gives result keys.old keys.new (λ signings. (b : Before) (m : Step) → KeysFit K.accepts b.keys m.signed keys.old signings → Grows K.accepts keys.old signings → Tells b m told self.old (around (K.accepts keys.old) (D.tells disk.old) (D.moments disk.old) out.old) → GoesOn result (λ _. Makes b (rounds node_ways b.keys 2 m) act_of.Kept self.new (around (K.accepts keys.new) (D.tells disk.new) (D.moments disk.new) out.new)) (λ fault. IsStopped b (rounds node_ways b.keys 2 m) (m.signed ++ statements_in signings) (K.accepts (keys_after keys.old signings)) (D.tells disk.old) (D.moments disk.new) fault)) }
+        ensures makes { Signs K.sign_gives result keys.old keys.new (λ signings. (b : Before) (m : Step) → KeysFit K.accepts b.keys m.signed keys.old signings → Grows K.accepts keys.old signings → Tells b m told self.old (around (K.accepts keys.old) (D.tells disk.old) (D.moments disk.old) out.old) → GoesOn result (λ _. Makes b (rounds node_ways b.keys 2 m) act_of.Kept self.new (around (K.accepts keys.new) (D.tells disk.new) (D.moments disk.new) out.new) × ((rounds node_ways b.keys 2 m).signed ≡ m.signed ++ statements_in signings)) (λ fault. IsStopped b (rounds node_ways b.keys 2 m) (m.signed ++ statements_in signings) (K.accepts (keys_after keys.old signings)) (D.tells disk.old) (D.moments disk.new) fault)) }
         ensures tells { D.tells disk.new ≡ D.tells disk.old }
         ensures later { (D.faults disk.old ≤ D.faults disk.new) × (K.faults keys.old ≤ K.faults keys.new) }
         ensures cause { HasNodeCause (counts (D.faults disk.old) (K.faults keys.old)) (counts (D.faults disk.new) (K.faults keys.new)) result }
     {
-        let Act::Deliver(block, cert) = self.votes(told, disk, keys, out)? else {
-            return Ok(());
-        };
-        self.deliver(block, cert, disk, keys, out)?;
-        let told = self.told(keys)?;
-        let Act::Deliver(block, cert) = self.votes(told, disk, keys, out)? else {
-            return Ok(());
-        };
-        self.deliver(block, cert, disk, keys, out)
+        if self.round(told, disk, keys, out)? {
+            let told = self.told(keys)?;
+            self.round(told, disk, keys, out)?;
+        }
+        Ok(())
     }
 }

@@ -1,4 +1,4 @@
-use Rattle.std.proofs.Common.{◌≡◌, ◌<◌, ◌≤◌, ◌^◌, length, subst, sym, arith}
+use Rattle.std.proofs.Common.{◌<◌, length, subst, sym, arith}
 use Rattle.std.specs.List.{AllByRecursion}
 use Rattle.ord_types.specs.Grammar.{HasRequestSpelling}
 use Rattle.ord_types.specs.declared.values.Request.{Request}

@@ -4,6 +4,9 @@ use Rattle.node_model.specs.Answers.{at_place}
 use Rattle.node_model.specs.declared.act.Act.TheVariants as act_of
 use Rattle.node_model.specs.Steps.{makes_delivered}
 use Rattle.bft_node.specs.Making.{node_ways}
+use Rattle.node_model.specs.Deeds.{Delivers}
+use Rattle.bft_node.specs.NodeFaults.{NeedsLimit}
+use Rattle.bft_node.specs.Stores.{held_of}
 use Rattle.bft_node.specs.declared.live.Running.{Running}
 use Rattle.bft_node.specs.Held.{Held}
 use Rattle.bft_node.proofs.PlaceLemmas.{delivered_place}
@@ -14,7 +17,8 @@ use Rattle.bft_node.proofs.live.Running.deliver.Goals as goal
 pub returns-in_err-keep_delivery-clause-makes : goal.returns-in_err-keep_delivery-clause-makes
 returns-in_err-keep_delivery-clause-makes g c = λ b m h.
     given_up c.from_residual.result _ _ _ c.from_residual.ensures.1
-    (delivered_stopped b m c.args.block c.args.cert c.args.self.now _ _ _ _ c.args.out.now h c.keep_delivery.ensures.any_moment)
+    (λ fault is. delivered_stopped b m c.args.block c.args.cert c.args.self.now _ _ _ _ c.args.out.now h c.keep_delivery.ensures.any_moment c.requires.kept fault
+    (subst (NeedsLimit (Delivers c.args.self.now.view.me c.args.block c.args.cert) (held_of c.args.self.now.store)) (sym is) c.in_err-keep_delivery.ensures.limit))
 
 pub returns-clause-makes : goal.returns-clause-makes
 returns-clause-makes g c = λ b m h.

@@ -1,5 +1,6 @@
 use Rattle.std.proofs.Common.{◌∷◌, ◌++◌, ◌+◌, ◌<◌, ◌^◌, List, [], ap, refl, subst, sym, ◌∙◌, arith}
 use Rattle.safety_model.specs.declared.fact.Fact.{Fact}
+use Rattle.node_model.specs.Deeds.{Delivers}
 use Rattle.block_ledger.proofs.Placing.{height_of_place}
 use Rattle.view_core.specs.Places.{IsPlace}
 use Rattle.bft_node.specs.Held.{Held}
@@ -7,6 +8,7 @@ use Rattle.bft_node.specs.Running.{place_of}
 use Rattle.bft_node.specs.Stores.{config_of, held_of}
 use Rattle.bft_node.specs.declared.live.Done.{Done}
 use Rattle.bft_node.specs.declared.live.Running.{Running}
+use Rattle.bft_node.proofs.KeepingLemmas.{needs_limit}
 use Rattle.bft_node.proofs.PlaceLemmas.{delivered_fact, delivered_place, done_is, next_stands}
 use Rattle.bft_node.proofs.live.Running.keep_delivery.Goals as goal
 
@@ -30,3 +32,7 @@ returns-clause-keeps g c =
       sends = refl;
       done = c.in_ok-push-2.ensures.ok ∙ ap (λ (l : List Done). c.args.out.now.done ++ l) (done_is c.in_ok-ids.ids r.view.me c.args.block c.args.cert c.in_ok-ids.ensures);
     }
+
+pub returns-in_err-deliver-clause-limit : goal.returns-in_err-deliver-clause-limit
+returns-in_err-deliver-clause-limit g c =
+    needs_limit c.args.self.now.store (Delivers c.args.self.now.view.me c.args.block c.args.cert) _ _ _ c.in_err-deliver.field-0.0 c.from_residual-in_err-deliver.result refl c.in_err-deliver.ensures.cause c.from_residual-in_err-deliver.ensures.1

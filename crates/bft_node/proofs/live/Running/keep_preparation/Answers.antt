@@ -1,14 +1,16 @@
 use Rattle.std.proofs.Common.{IsTrue, ◌∷◌, ◌++◌, [], ap, refl, subst, sym, ◌∙◌}
 use Rattle.std.proofs.lemmas.List.{append-nil}
 use Rattle.gate_log.specs.Runs.{Went}
-use Rattle.node_model.specs.Deeds.{Deed, fact_of}
+use Rattle.node_model.specs.Deeds.{Deed, fact_of, preparation}
 use Rattle.bft_node.specs.Crashes.{Within}
 use Rattle.bft_node.specs.Held.{Held, with_deed}
+use Rattle.bft_node.specs.NodeFaults.{write_limit}
+use Rattle.bft_node.specs.Running.{place_of}
 use Rattle.bft_node.specs.Stores.{config_of, held_of}
 use Rattle.bft_node.specs.declared.live.Running.{Running}
 use Rattle.block_ledger.specs.Ledgers.{first_config}
 use Rattle.block_ledger.specs.declared.ledger.Ledger.{Ledger}
-use Rattle.bft_node.proofs.KeepingLemmas.{keeps_within, same_place, same_preparation, still_sound}
+use Rattle.bft_node.proofs.KeepingLemmas.{keeps_within, needs_limit, same_place, same_preparation, still_sound}
 use Rattle.bft_node.proofs.live.Running.keep_preparation.Goals as goal
 
 pub returns-in_err-prepare-clause-any_moment : goal.returns-in_err-prepare-clause-any_moment
@@ -24,6 +26,12 @@ returns-in_err-push-clause-any_moment g c =
     let same = same_preparation r r.view.me c.view-view.result c.place-place.result.now c.args.digest refl c.place-place.ensures c.view-view.ensures in
     keeps_within _ r _ _ _ (λ judge t chain. subst (λ (d : Deed). Went (Within judge (config_of r.store) (d ∷ []) (held_of r.store)) (g.D.Disk.moments c.args.disk.now) (g.D.Disk.moments c.prepare.new.disk)) same
     (c.prepare.ensures.any_moment r.view.me judge t chain))
+
+pub returns-in_err-prepare-clause-limit : goal.returns-in_err-prepare-clause-limit
+returns-in_err-prepare-clause-limit g c =
+    let r = c.args.self.now in
+    let same = same_preparation r r.view.me c.view-view.result c.place-place.result.now c.args.digest refl c.place-place.ensures c.view-view.ensures in
+    needs_limit r.store (preparation (place_of r) r.view c.args.digest) _ _ _ c.in_err-prepare.field-0.0 c.from_residual.result (ap (write_limit r.store) (sym same)) c.in_err-prepare.ensures.cause c.from_residual.ensures.1
 
 pub returns-clause-ready : goal.returns-clause-ready
 returns-clause-ready g c =
