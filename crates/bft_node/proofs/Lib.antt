@@ -1,12 +1,15 @@
 mod ActLemmas
 mod CommitLemmas
+mod EventLemmas
 mod Folds
 mod GoingOn
 mod KeepingLemmas
 mod MakingLemmas
 mod Nexts
+mod OpenLemmas
 mod Opened
 mod PlaceLemmas
+mod RepeatLemmas
 mod Resumed
 mod RoundLemmas
 mod Running
@@ -15,4 +18,5 @@ mod SpelledLemmas
 mod Standings
 mod Stands
 mod StepDeeds
+mod StepLemmas
 mod ViewLemmas

@@ -14,7 +14,7 @@ ghost use Rattle.node_model.specs.Steps.{FromMember, Tick, begins, makes_accepte
 ghost use Rattle.view_core.specs.Fits.{FitsAct};
 ghost use Rattle.bft_node.specs.Making.{Around, Before, Begins, GoesOn, IsStopped, Makes, Step, Tells, around, node_returns, node_ways, place_in, view_in};
 ghost use Rattle.bft_node.specs.NodeFaults.{HasNodeCause, counts};
-ghost use Rattle.bft_node.specs.Running.{IsReady, IsSound, event_of, state_of};
+ghost use Rattle.bft_node.specs.Running.{IsReady, IsSame, IsSound, event_of, state_of};
 ghost use Rattle.bft_node.specs.Signings.{Grows, KeysFit, Signs, keys_after, statements_in};
 
 use crate::NodeFault;
@@ -50,6 +50,7 @@ impl Running {
     ) -> Result<(), NodeFault>
         requires ready { IsReady (D.tells disk.old) (D.moments disk.old) self.old }
         requires fits { FitsBlock block }
+        ensures same { OnOk result (IsSame self.old self.new) }
         ensures ready { OnOk result (IsReady (D.tells disk.new) (D.moments disk.new) self.new) }
         ensures makes { (accepts : SomeAccepts) (b : Before) (m : Step) → Makes b m (act_of.Accept block) self.old (around accepts (D.tells disk.old) (D.moments disk.old) out.old) → GoesOn result (λ _. Makes b (makes_accepted node_ways block (preprepare_message (place_in m) (view_in m) block ∷ []) m) act_of.Kept self.new (around accepts (D.tells disk.new) (D.moments disk.new) out.new)) (λ fault. IsStopped b (makes_accepted node_ways block (preprepare_message (place_in m) (view_in m) block ∷ []) m) m.signed accepts (D.tells disk.old) (D.moments disk.new) fault) }
         ensures tells { D.tells disk.new ≡ D.tells disk.old }
@@ -71,6 +72,7 @@ impl Running {
         out: &mut Out,
     ) -> Result<(), NodeFault>
         requires { IsReady (D.tells disk.old) (D.moments disk.old) self.old }
+        ensures same { OnOk result (IsSame self.old self.new) }
         ensures ready { OnOk result (IsReady (D.tells disk.new) (D.moments disk.new) self.new) }
         ensures makes { (b : Before) (m : Step) → Makes b m act_of.Kept self.old (around (V.accepts keys.now) (D.tells disk.old) (D.moments disk.old) out.old) → GoesOn result (λ _. Makes b (propose_round node_ways (proposed (place_in m) (view_in m) offer) m) act_of.Kept self.new (around (V.accepts keys.now) (D.tells disk.new) (D.moments disk.new) out.new)) (λ fault. IsStopped b (propose_round node_ways (proposed (place_in m) (view_in m) offer) m) m.signed (V.accepts keys.now) (D.tells disk.old) (D.moments disk.new) fault) }
         ensures tells { D.tells disk.new ≡ D.tells disk.old }
@@ -92,8 +94,9 @@ impl Running {
         out: &mut Out,
     ) -> Result<(), NodeFault>
         requires { IsReady (D.tells disk.old) (D.moments disk.old) self.old }
+        ensures same { OnOk result (IsSame self.old self.new) }
         ensures ready { OnOk result (IsReady (D.tells disk.new) (D.moments disk.new) self.new) }
-        ensures makes { Signs K.sign_gives result keys.old keys.new (λ signings. (b : Before) → KeysFit K.accepts b.keys [] keys.old signings → Grows K.accepts keys.old signings → Begins b self.old (around (K.accepts keys.old) (D.tells disk.old) (D.moments disk.old) out.old) → GoesOn result (λ _. Makes b (step node_returns b.keys (unlogged (state_of self.old)) (Tick offer)) act_of.Kept self.new (around (K.accepts keys.new) (D.tells disk.new) (D.moments disk.new) out.new)) (λ fault. IsStopped b (step node_returns b.keys (unlogged (state_of self.old)) (Tick offer)) (statements_in signings) (K.accepts (keys_after keys.old signings)) (D.tells disk.old) (D.moments disk.new) fault)) }
+        ensures makes { Signs K.sign_gives result keys.old keys.new (λ signings. (b : Before) → KeysFit K.accepts b.keys [] keys.old signings → Grows K.accepts keys.old signings → Begins b self.old (around (K.accepts keys.old) (D.tells disk.old) (D.moments disk.old) out.old) → GoesOn result (λ _. Makes b (step node_returns b.keys (unlogged (state_of self.old)) (Tick offer)) act_of.Kept self.new (around (K.accepts keys.new) (D.tells disk.new) (D.moments disk.new) out.new) × ((step node_returns b.keys (unlogged (state_of self.old)) (Tick offer)).signed ≡ statements_in signings)) (λ fault. IsStopped b (step node_returns b.keys (unlogged (state_of self.old)) (Tick offer)) (statements_in signings) (K.accepts (keys_after keys.old signings)) (D.tells disk.old) (D.moments disk.new) fault)) }
         ensures tells { D.tells disk.new ≡ D.tells disk.old }
         ensures later { (D.faults disk.old ≤ D.faults disk.new) × (K.faults keys.old ≤ K.faults keys.new) }
         ensures cause { HasNodeCause (counts (D.faults disk.old) (K.faults keys.old)) (counts (D.faults disk.new) (K.faults keys.new)) result }
@@ -113,6 +116,7 @@ impl Running {
     ) -> Result<Act, NoMemory>
         requires sound { IsSound self.old }
         requires other { from ≢ self.old.id }
+        ensures same { IsSame self.old self.new }
         ensures sound { IsSound self.new }
         ensures ready { (tells : Bool) (moments : Items State) → IsReady tells moments self.old → IsReady tells moments self.new }
         ensures fits { IfOk result FitsAct }
@@ -131,6 +135,7 @@ impl Running {
     fn hears<V: Verifier>(&mut self, from: u32, message: Message, keys: &V) -> Result<Act, NoMemory>
         requires sound { IsSound self.old }
         requires fits { FitsMessage message }
+        ensures same { IsSame self.old self.new }
         ensures sound { IsSound self.new }
         ensures ready { (tells : Bool) (moments : Items State) → IsReady tells moments self.old → IsReady tells moments self.new }
         ensures fits { IfOk result FitsAct }
@@ -156,6 +161,7 @@ impl Running {
     /// What bytes bring: the act that is due with the message that they spell. Bytes that spell none bring nothing.
     fn comes<V: Verifier>(&mut self, from: u32, bytes: &[u8], keys: &V) -> Result<Act, NoMemory>
         requires { IsSound self.old }
+        ensures same { IsSame self.old self.new }
         ensures sound { IsSound self.new }
         ensures ready { (tells : Bool) (moments : Items State) → IsReady tells moments self.old → IsReady tells moments self.new }
         ensures fits { IfOk result FitsAct }
@@ -178,8 +184,9 @@ impl Running {
         out: &mut Out,
     ) -> Result<(), NodeFault>
         requires { IsReady (D.tells disk.old) (D.moments disk.old) self.old }
+        ensures same { OnOk result (IsSame self.old self.new) }
         ensures ready { OnOk result (IsReady (D.tells disk.new) (D.moments disk.new) self.new) }
-        ensures makes { Signs K.sign_gives result keys.old keys.new (λ signings. (b : Before) → KeysFit K.accepts b.keys [] keys.old signings → Grows K.accepts keys.old signings → Begins b self.old (around (K.accepts keys.old) (D.tells disk.old) (D.moments disk.old) out.old) → GoesOn result (λ _. Makes b (step node_returns b.keys (unlogged (state_of self.old)) (FromMember from bytes.now)) act_of.Kept self.new (around (K.accepts keys.new) (D.tells disk.new) (D.moments disk.new) out.new)) (λ fault. IsStopped b (step node_returns b.keys (unlogged (state_of self.old)) (FromMember from bytes.now)) (statements_in signings) (K.accepts (keys_after keys.old signings)) (D.tells disk.old) (D.moments disk.new) fault)) }
+        ensures makes { Signs K.sign_gives result keys.old keys.new (λ signings. (b : Before) → KeysFit K.accepts b.keys [] keys.old signings → Grows K.accepts keys.old signings → Begins b self.old (around (K.accepts keys.old) (D.tells disk.old) (D.moments disk.old) out.old) → GoesOn result (λ _. Makes b (step node_returns b.keys (unlogged (state_of self.old)) (FromMember from bytes.now)) act_of.Kept self.new (around (K.accepts keys.new) (D.tells disk.new) (D.moments disk.new) out.new) × ((step node_returns b.keys (unlogged (state_of self.old)) (FromMember from bytes.now)).signed ≡ statements_in signings)) (λ fault. IsStopped b (step node_returns b.keys (unlogged (state_of self.old)) (FromMember from bytes.now)) (statements_in signings) (K.accepts (keys_after keys.old signings)) (D.tells disk.old) (D.moments disk.new) fault)) }
         ensures tells { D.tells disk.new ≡ D.tells disk.old }
         ensures later { (D.faults disk.old ≤ D.faults disk.new) × (K.faults keys.old ≤ K.faults keys.new) }
         ensures cause { HasNodeCause (counts (D.faults disk.old) (K.faults keys.old)) (counts (D.faults disk.new) (K.faults keys.new)) result }
@@ -197,8 +204,9 @@ impl Running {
         out: &mut Out,
     ) -> Result<(), NodeFault>
         requires { IsReady (D.tells disk.old) (D.moments disk.old) self.old }
+        ensures same { OnOk result (IsSame self.old self.new) }
         ensures ready { OnOk result (IsReady (D.tells disk.new) (D.moments disk.new) self.new) }
-        ensures makes { Signs K.sign_gives result keys.old keys.new (λ signings. (b : Before) → KeysFit K.accepts b.keys [] keys.old signings → Grows K.accepts keys.old signings → Begins b self.old (around (K.accepts keys.old) (D.tells disk.old) (D.moments disk.old) out.old) → GoesOn result (λ _. Makes b (step node_returns b.keys (unlogged (state_of self.old)) (event_of event)) act_of.Kept self.new (around (K.accepts keys.new) (D.tells disk.new) (D.moments disk.new) out.new)) (λ fault. IsStopped b (step node_returns b.keys (unlogged (state_of self.old)) (event_of event)) (statements_in signings) (K.accepts (keys_after keys.old signings)) (D.tells disk.old) (D.moments disk.new) fault)) }
+        ensures makes { Signs K.sign_gives result keys.old keys.new (λ signings. (b : Before) → KeysFit K.accepts b.keys [] keys.old signings → Grows K.accepts keys.old signings → Begins b self.old (around (K.accepts keys.old) (D.tells disk.old) (D.moments disk.old) out.old) → GoesOn result (λ _. Makes b (step node_returns b.keys (unlogged (state_of self.old)) (event_of event)) act_of.Kept self.new (around (K.accepts keys.new) (D.tells disk.new) (D.moments disk.new) out.new) × ((step node_returns b.keys (unlogged (state_of self.old)) (event_of event)).signed ≡ statements_in signings)) (λ fault. IsStopped b (step node_returns b.keys (unlogged (state_of self.old)) (event_of event)) (statements_in signings) (K.accepts (keys_after keys.old signings)) (D.tells disk.old) (D.moments disk.new) fault)) }
         ensures tells { D.tells disk.new ≡ D.tells disk.old }
         ensures later { (D.faults disk.old ≤ D.faults disk.new) × (K.faults keys.old ≤ K.faults keys.new) }
         ensures cause { HasNodeCause (counts (D.faults disk.old) (K.faults keys.old)) (counts (D.faults disk.new) (K.faults keys.new)) result }

@@ -1,4 +1,4 @@
-ghost use Rattle.std.specs.Prelude.{◌≡◌};
+ghost use Rattle.std.specs.Prelude.{◌≡◌, []};
 
 use crate::Store;
 use ord_types::{Block, Bytes, Config, List, ReqId, Request};
@@ -47,7 +47,11 @@ pub struct Out {
 
 impl Out {
     /// Of a step that has done nothing yet.
-    pub(crate) fn new(alloc: Global) -> Out {
+    pub(crate) fn new(alloc: Global) -> Out
+        ensures facts { result.facts ≡ [] }
+        ensures sends { result.sends ≡ [] }
+        ensures done { result.done ≡ [] }
+    {
         Out {
             facts: List::new(alloc),
             sends: List::new(alloc),
