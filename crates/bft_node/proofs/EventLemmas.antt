@@ -1,17 +1,17 @@
 -- What comes to a node, and the step of the definition that begins with it.
-use Rattle.std.proofs.Common.{◌≡◌, ℕ, Bool, true, false, ◌==◌, List, [], ◌∷◌, map, Option, Some, None, option_map, option_and_then, Result, Ok, Err, IfOk, OnOk, OnErr, IsTrue, inl, inr, refl, sym, ap, subst, ◌∙◌}
+use Rattle.std.proofs.Common.{◌≡◌, ℕ, Bool, ◌==◌, List, [], ◌∷◌, Option, Some, None, option_map, option_and_then, Result, Ok, Err, OnOk, OnErr, inl, inr, refl, sym, ap, subst, ◌∙◌}
 use Rattle.std.proofs.lemmas.Bool.{cases_Bool, eq-eqb, ne_eqb}
 use Rattle.ord_types.specs.Grammar.{IsNumber}
 use Rattle.ord_types.specs.declared.values.Block.{Block}
 use Rattle.ord_types.specs.declared.values.Place.{Place}
-use Rattle.gate_log.specs.Disk.{State, now}
+use Rattle.gate_log.specs.Disk.{State}
 use Rattle.signer_edge.specs.Accepts.{Accepts}
 use Rattle.safety_model.specs.Blocks.{Request}
 use Rattle.bft_wire.specs.declared.reason.Reason.{Reason}
 use Rattle.bft_wire.specs.Reading.{message_in}
 use Rattle.bft_wire.specs.declared.message.Message.{Message}
 use Rattle.bft_wire.specs.declared.message.Message.TheVariants as wire
-use Rattle.block_ledger.specs.Chains.{Entry, IsChain}
+use Rattle.block_ledger.specs.Chains.{IsChain}
 use Rattle.block_ledger.specs.Places.{place_after}
 use Rattle.node_model.specs.declared.act.Act.{Act}
 use Rattle.node_model.specs.declared.act.Act.TheVariants as act_of
@@ -31,7 +31,7 @@ use Rattle.bft_node.specs.Held.{Held}
 use Rattle.bft_node.specs.Making.{Around, Before, Begins, Makes, Step, Tells, act_in, node_ways, place_in, view_in}
 use Rattle.bft_node.specs.NodeFaults.{IsNoLimit}
 use Rattle.bft_node.specs.Running.{IsReady, IsSound, as_found, place_of, state_of}
-use Rattle.bft_node.specs.Stores.{IsKept, config_of, held_of}
+use Rattle.bft_node.specs.Stores.{config_of, held_of}
 use Rattle.bft_node.specs.declared.live.Running.{Running}
 use Rattle.bft_node.specs.declared.node_fault.NodeFault.{NodeFault}
 use Rattle.bft_node.specs.declared.node_fault.NodeFault.TheVariants as node_of
@@ -100,8 +100,8 @@ vote_view result r accepts p letter left s here ok err =
     let kept : View = kept_after accepts (place_of r) r.view letter in
     whatever result (left ≡ after_vote accepts p r.view letter) (left ≡ at_place p r.view) (IsViewOf r left) ok err
     (λ e. subst (IsViewOf r)
-        (sym (e ∙ ap (λ q. after_vote accepts q r.view letter) here ∙ ap (λ v. after_act (vote_answer accepts (place_of r) v letter) (kept_after accepts (place_of r) v letter)) at))
-        (act_view r (vote_answer accepts (place_of r) r.view letter) kept (kept_view_of r accepts r.view letter (same_view r s))))
+    (sym (e ∙ ap (λ q. after_vote accepts q r.view letter) here ∙ ap (λ v. after_act (vote_answer accepts (place_of r) v letter) (kept_after accepts (place_of r) v letter)) at))
+    (act_view r (vote_answer accepts (place_of r) r.view letter) kept (kept_view_of r accepts r.view letter (same_view r s))))
     (λ e. subst (IsViewOf r) (sym (e ∙ ap (λ q. at_place q r.view) here ∙ at)) (same_view r s))
 
 -- WHERE A STEP BEGINS
@@ -119,7 +119,7 @@ pub begun : (b : Before) (r new : Running) (a : Around) (event : steps.Event) (t
 begun b r new a event told came h mine id store found comes me view =
     let place : place_of new ≡ place_of r = ap (λ (s : Store). place_after (config_of s) (held_of s).blocks) store in
     let first : IsChain b.first b.config b.held.blocks → IsChain a.accepts b.config (held_of r.store).blocks = λ began.
-        subst (λ (x : Held). IsChain a.accepts b.config x.blocks) (sym h.held) (subst (λ (k : Accepts). IsChain k b.config b.held.blocks) h.first began) in
+    subst (λ (x : Held). IsChain a.accepts b.config x.blocks) (sym h.held) (subst (λ (k : Accepts). IsChain k b.config b.held.blocks) h.first began) in
     record {
       id = id ∙ h.id;
       config = ap config_of store ∙ h.config;
@@ -203,8 +203,8 @@ vote_told b r left a from bytes message vote told accepts p s other here answer 
     let at = at_place-at (place_of r) r.view s.at in
     let told_here : told ≡ vote_answer accepts (place_of r) r.view letter = answer ∙ ap (λ q. vote_answer accepts q (at_place q r.view) letter) here ∙ ap (λ v. vote_answer accepts (place_of r) v letter) at in
     let left_here : left ≡ after_act told (kept_after accepts (place_of r) r.view letter) =
-        after ∙ ap (λ q. after_vote accepts q r.view letter) here ∙ ap (λ v. after_act (vote_answer accepts (place_of r) v letter) (kept_after accepts (place_of r) v letter)) at
-        ∙ ap (λ t. after_act t (kept_after accepts (place_of r) r.view letter)) (sym told_here) in
+    after ∙ ap (λ q. after_vote accepts q r.view letter) here ∙ ap (λ v. after_act (vote_answer accepts (place_of r) v letter) (kept_after accepts (place_of r) v letter)) at
+    ∙ ap (λ t. after_act t (kept_after accepts (place_of r) r.view letter)) (sym told_here) in
     let same : kept_after accepts (place_of r) r.view letter ≡ kept_after a.accepts (place_of r) r.view letter = ap (λ (k : Accepts). kept_after k (place_of r) r.view letter) (sym is) in
     begun_told b r (with_view r left) a from bytes told (kept_after a.accepts (place_of r) r.view letter) h s.me refl refl refl
     (hears_other b r a from bytes vote h (a_letter from bytes message vote spelt voted) (λ e. other (e ∙ s.me)))
@@ -283,8 +283,8 @@ propose_view result r p offer left s here ok err =
     let at = at_place-at (place_of r) r.view s.at in
     whatever result (left ≡ after_propose p r.view offer) (left ≡ at_place p r.view) (IsViewOf r left) ok err
     (λ e. subst (IsViewOf r)
-        (sym (e ∙ ap (λ q. after_propose q r.view offer) here ∙ ap (λ v. after_act (propose_answer (place_of r) v offer) v) at))
-        (act_view r (propose_answer (place_of r) r.view offer) r.view (same_view r s)))
+    (sym (e ∙ ap (λ q. after_propose q r.view offer) here ∙ ap (λ v. after_act (propose_answer (place_of r) v offer) v) at))
+    (act_view r (propose_answer (place_of r) r.view offer) r.view (same_view r s)))
     (λ e. subst (IsViewOf r) (sym (e ∙ ap (λ q. at_place q r.view) here ∙ at)) (same_view r s))
 
 -- with the proposal that is due

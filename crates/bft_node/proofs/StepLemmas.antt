@@ -1,5 +1,5 @@
 -- What a step makes of an event, and what it answers and leaves.
-use Rattle.std.proofs.Common.{◌≡◌, ℕ, Bool, List, [], ◌∷◌, ◌++◌, map, length, Option, Some, None, Result, Ok, Err, IsErrAnd, IsTrue, refl, sym, ap, subst, ◌∙◌}
+use Rattle.std.proofs.Common.{◌≡◌, ℕ, Bool, List, [], ◌++◌, map, length, Option, Some, None, Result, Ok, Err, IsErrAnd, IsTrue, refl, sym, ap, subst, ◌∙◌}
 use Rattle.std.proofs.lemmas.List.{append-nil}
 use Rattle.ord_types.specs.declared.values.Place.{Place}
 use Rattle.gate_log.specs.Disk.{State, now}
@@ -102,8 +102,8 @@ module _ (model : Keys) (old new : Running) (event : steps.Event) (signed : List
       let m : Step = step_from model old event in
       let deeds : List Deed = m.state.deeds in
       let made : IsMade (length deeds) (deeds ++ []) m.signed signed =
-          subst (λ (ds : List Deed). IsMade (length deeds) ds m.signed signed) (sym (append-nil deeds))
-          (subst (λ (l : List (List ℕ)). IsMade (length deeds) deeds m.signed l) all (made_whole deeds m.signed)) in
+      subst (λ (ds : List Deed). IsMade (length deeds) ds m.signed signed) (sym (append-nil deeds))
+      (subst (λ (l : List (List ℕ)). IsMade (length deeds) deeds m.signed l) all (made_whole deeds m.signed)) in
       record {
         steps = record {
           state = same_returned (place_of new) (place_in m) new.view (view_in m) (as_found new.found) m.state.state.found h.place h.view h.found;

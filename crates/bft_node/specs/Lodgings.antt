@@ -1,5 +1,5 @@
 -- The nodes of one world with their disks, and what an opening and a step make of one.
-use Rattle.std.specs.Prelude.{◌≡◌, ◌≢◌, ◌↔◌, ℕ, false, true, List, [], Option, Some, None, Result, Ok, Err, is_err, OnOk}
+use Rattle.std.specs.Prelude.{◌≡◌, ◌≢◌, ◌↔◌, ℕ, false, true, [], Option, Some, Result, Ok, Err, is_err, OnOk}
 use Rattle.gate_log.specs.Arms.{armed}
 use Rattle.gate_log.specs.Disk.{now}
 use Rattle.gate_log.specs.History.{states}

@@ -1,5 +1,5 @@
 -- What a step of a node answers and leaves.
-use Rattle.std.specs.Prelude.{◌≡◌, ℕ, Bool, true, List, [], map, IsTrue, Result, Ok, Err}
+use Rattle.std.specs.Prelude.{◌≡◌, ℕ, Bool, List, map, IsTrue, Result, Ok, Err}
 use Rattle.std.specs.List.{flat_map}
 use Rattle.gate_log.specs.Disk.{State, now}
 use Rattle.gate_log.specs.Runs.{Went}

@@ -1,4 +1,4 @@
-use Rattle.std.proofs.Common.{Some, refl, ap, sym, ◌∙◌}
+use Rattle.std.proofs.Common.{Some, ap, sym, ◌∙◌}
 use Rattle.std.proofs.lemmas.Result.{IfOk-weaker}
 use Rattle.node_model.specs.declared.letter.VoteMessage.TheVariants as vote_of
 use Rattle.node_model.specs.Letters.{vote_in}
@@ -26,8 +26,8 @@ pub returns-in-PrePrepare-clause-makes : goal.returns-in-PrePrepare-clause-makes
 returns-in-PrePrepare-clause-makes g c =
     IfOk-with c.on_preprepare.result _ _ _
     (λ told answer after b bytes a is spelt h.
-        vote_told b c.args.self.now c.on_preprepare.new.self a c.args.from bytes c.args.message (vote_of.PrePrepare c.in-PrePrepare.message) told (g.V.Verifier.accepts c.args.keys.now) c.place.result.now c.requires.sound c.if-from-self.false c.place.ensures
-        answer after is spelt (ap vote_in c.in-PrePrepare.is) h)
+    vote_told b c.args.self.now c.on_preprepare.new.self a c.args.from bytes c.args.message (vote_of.PrePrepare c.in-PrePrepare.message) told (g.V.Verifier.accepts c.args.keys.now) c.place.result.now c.requires.sound c.if-from-self.false c.place.ensures
+    answer after is spelt (ap vote_in c.in-PrePrepare.is) h)
     c.on_preprepare.ensures.answer c.on_preprepare.ensures.after
 
 pub returns-in-Prepare-clause-makes : goal.returns-in-Prepare-clause-makes
@@ -48,8 +48,8 @@ pub returns-in-Commit-clause-makes : goal.returns-in-Commit-clause-makes
 returns-in-Commit-clause-makes g c =
     IfOk-with c.on_commit.result _ _ _
     (λ told answer after b bytes a is spelt h.
-        vote_told b c.args.self.now c.on_commit.new.self a c.args.from bytes c.args.message (vote_of.Commit c.in-Commit.message) told (g.V.Verifier.accepts c.args.keys.now) c.place-in-Commit.result.now c.requires.sound c.if-from-self.false c.place-in-Commit.ensures
-        answer after is spelt (ap vote_in c.in-Commit.is) h)
+    vote_told b c.args.self.now c.on_commit.new.self a c.args.from bytes c.args.message (vote_of.Commit c.in-Commit.message) told (g.V.Verifier.accepts c.args.keys.now) c.place-in-Commit.result.now c.requires.sound c.if-from-self.false c.place-in-Commit.ensures
+    answer after is spelt (ap vote_in c.in-Commit.is) h)
     c.on_commit.ensures.answer c.on_commit.ensures.after
 
 pub returns : goal.returns

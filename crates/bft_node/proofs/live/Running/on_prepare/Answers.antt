@@ -1,4 +1,3 @@
-use Rattle.std.proofs.Common.{refl}
 use Rattle.std.proofs.lemmas.Result.{IfOk-weaker}
 use Rattle.bft_node.proofs.EventLemmas.{prepare_kept, prepare_told, prepare_view, view_ready, view_sound}
 use Rattle.bft_node.proofs.live.Running.on_prepare.Goals as goal
