@@ -39,9 +39,31 @@ use Rattle.bft_node.specs.declared.live.Running.{Running}
 use Rattle.bft_node.specs.declared.node_fault.NodeFault.{NodeFault}
 use Rattle.bft_node.specs.declared.store.Store.{Store}
 use Rattle.bft_node.proofs.ActLemmas.{sent_more}
-use Rattle.bft_node.proofs.CommitLemmas.{commit_accepts, commit_grows, commit_letter, commit_sends, commit_signed, commit_view, grows_last, same_statement}
 use Rattle.bft_node.proofs.MakingLemmas.{front_more, front_of, goes_accepting, made_before, stopped_with}
 use Rattle.bft_node.proofs.ViewLemmas.{at_place-at, me-kept_after}
+
+-- WHAT THE KEYS DID
+
+-- what was accepted still is after these signings
+pub grows_keeps : {K : Type 0} (accepts : K → Accepts) (k : K) (signings : List (Signing K)) → Grows accepts k signings → KeepsAccepted (accepts k) (accepts (keys_after k signings))
+grows_keeps accepts k [] g = λ statement sig h. h
+grows_keeps accepts k (s ∷ more) g = λ statement sig h. grows_keeps accepts s.keys more g.1 statement sig (g.0 statement sig h)
+
+-- more follows of the same signings
+pub signs_to : {K T E : Type 0} (gives : K → List ℕ → Result Sig SignFault → K → Type 0) (r : Result T E) (old new : K) (P Q : List (Signing K) → Type 0)
+    → Signs gives r old new P → ((signings : List (Signing K)) → P signings → Q signings) → Signs gives r old new Q
+signs_to gives r old new P Q s to = record { signings = s.signings; given = s.given; after = s.after; what = to s.signings s.what }
+
+-- of a call whose fault is handed on
+pub signs_handed : {K T U E : Type 0} (gives : K → List ℕ → Result Sig SignFault → K → Type 0) (r : Result U E) (fault : E) (old new : K) (P Q : List (Signing K) → Type 0)
+    → IsErrAnd r (λ e. e ≡ fault) → Signs {T = T} gives (Err fault) old new P → ((signings : List (Signing K)) → P signings → Q signings) → Signs gives r old new Q
+signs_handed gives (Ok x) fault old new P Q is s to = absurd is
+signs_handed gives (Err e) fault old new P Q is s to = record { signings = s.signings; given = s.given; after = s.after; what = to s.signings s.what }
+
+-- nothing was signed
+pub ends_still : {K T E : Type 0} (gives : K → List ℕ → Result Sig SignFault → K → Type 0) (r : Result T E) (k : K) → EndsAt gives r k k
+ends_still gives (Ok x) k = refl
+ends_still gives (Err e) k = inl refl
 
 -- A STEP THAT WAS GIVEN UP before its first deed, with these statements signed
 
@@ -63,50 +85,99 @@ after_other (act_of.Deliver x cert) w a p = refl
 after_other act_of.Kept w a p = refl
 after_other (act_of.Nothing reason) w a p = refl
 
-module _ {K : Type 0} (accepts : K → Accepts) (keys : K) (digest : List ℕ) (old : Running) (before : Out) (signings : List (Signing K)) (tells : Bool) (moments : List State) (b : Before) (m : Step) (h : Makes b m act_of.Kept old (around (accepts keys) tells moments before)) where
-  -- given up where at most this is signed
-  pub commit_stopped : SignsAtMost (statement_at old digest) signings → IsReady tells moments old → m.state.deeds ≡ [] → Grows accepts keys signings → (fault : NodeFault) → IsNoLimit fault
-      → IsStopped b (repeats_commit node_returns b.keys digest m) (m.signed ++ statements_in signings) (accepts (keys_after keys signings)) tells moments fault
-  commit_stopped most ready none grows fault no_limit =
-      let first : IsFront (m.signed ++ statements_in signings) (repeats_commit node_returns b.keys digest m).signed =
-          (most.0, append_assoc m.signed (statements_in signings) most.0 ∙ ap (λ l. m.signed ++ l) most.1 ∙ ap (λ s. m.signed ++ s ∷ []) (same_statement old (place_in m) (view_in m) digest h.place h.view)) in
-      stopped_before b m (repeats_commit node_returns b.keys digest m) old (around (accepts keys) tells moments before) (m.signed ++ statements_in signings) (accepts (keys_after keys signings)) fault ready none refl
-      (grows_last accepts keys signings grows) h first no_limit
+module _ (b : Before) (m : Step) (digest : List ℕ) (old : Running) (accepts : Accepts) (tells : Bool) (moments : List State) (before : Out) (h : Makes b m act_of.Kept old (around accepts tells moments before)) where
+  here : List ℕ
+  here = commit_text (place_in m).config.number (view_in m).view (place_in m).height digest
 
-  module _ (last : K) (told : Act) (new : Running) (after : Out) (at : StandsAt (place_of old) old.view) (c : Commits digest told old new (accepts last) last signings before after) where
-    -- all of it is signed
-    pub commit_whole : SignsAtMost (statement_at old digest) signings
-    commit_whole = ([], append-nil (statements_in signings) ∙ ap (λ (l : List (Signing K)). statements_in l) c.signed)
+  statement_here : statement_at old digest ≡ here
+  unfolding here
+  statement_here =
+      ap (λ (p : Place). commit_text p.config.number old.view.view p.height digest) h.place
+      ∙ ap (λ (w : View). commit_text (place_in m).config.number w.view (place_in m).height digest) h.view
 
-    module _ (fit : KeysFit accepts b.keys m.signed keys signings) where
-      pub commit_said : (repeats_commit node_returns b.keys digest m).signed ≡ m.signed ++ statements_in signings
-      commit_said = commit_signed accepts b.keys m.signed (place_in m) (view_in m) digest told old new keys last signings before after h.place h.view (h.id ∙ sym h.me) at c fit
+  -- at most this is signed
+  pub repeats_first : {K : Type 0} (signings : List (Signing K)) → SignsAtMost (statement_at old digest) signings → IsFront (m.signed ++ statements_in signings) (repeats_commit node_returns b.keys digest m).signed
+  unfolding here
+  repeats_first signings most =
+      (most.0, append_assoc m.signed (statements_in signings) most.0 ∙ ap (λ l. m.signed ++ l) most.1 ∙ ap (λ s. m.signed ++ s ∷ []) statement_here)
 
-      -- it is signed, sent and kept, and no vote is due with it
-      pub commit_repeated : ((x : Block) → told ≡ act_of.Accept x → ⊥) → ((x : List ℕ) → told ≡ act_of.Prepare x → ⊥) → Grows accepts keys signings
-          → Makes b (repeats_commit node_returns b.keys digest m) act_of.Kept new (around (accepts last) tells moments after)
-      commit_repeated no_accept no_prepare grows =
-          let made = repeats_commit node_returns b.keys digest m in
-          let me : old.id ≡ (view_in m).me = h.id ∙ sym h.me in
-          let more = commit_grows accepts b.keys m.signed (place_in m) (view_in m) digest told old new keys last signings before after h.place h.view me at c fit grows in
-          let letter = commit_letter (place_in m) (view_in m) digest (b.keys.signs m.signed) in
+  module _ {K : Type 0} (told : Act) (new : Running) (later : Accepts) (keys : K) (signings : List (Signing K)) (after : Out) (c : Commits digest told old new later keys signings before after) where
+    -- this is signed
+    pub repeats_all : SignsAtMost (statement_at old digest) signings
+    repeats_all = ([], append-nil (statements_in signings) ∙ ap (λ (l : List (Signing K)). statements_in l) c.signed)
+
+    pub repeats_signed : (repeats_commit node_returns b.keys digest m).signed ≡ m.signed ++ statements_in signings
+    unfolding here
+    repeats_signed = ap (λ s. m.signed ++ s ∷ []) (sym statement_here) ∙ ap (λ (l : List (Signing K)). m.signed ++ statements_in l) (sym c.signed)
+
+    module _ (at : StandsAt (place_of old) old.view) (no_accept : (x : Block) → told ≡ act_of.Accept x → ⊥) (no_prepare : (x : List ℕ) → told ≡ act_of.Prepare x → ⊥)
+        (signs : b.keys.signs m.signed ≡ c.sig) (later_is : b.keys.accepts (m.signed ++ statement_at old digest ∷ []) ≡ later) (grows : KeepsAccepted accepts later) where
+      signed_later : b.keys.accepts (m.signed ++ here ∷ []) ≡ later
+      signed_later = ap (λ s. b.keys.accepts (m.signed ++ s ∷ [])) (sym statement_here) ∙ later_is
+
+      commit_here : commit_at old digest c.sig ≡ commit_message (place_in m) (view_in m) digest (b.keys.signs m.signed)
+      commit_here =
+          ap (λ (p : Place). commit_message p old.view digest c.sig) h.place ∙ ap (λ (w : View). commit_message (place_in m) w digest c.sig) h.view
+          ∙ ap (λ (s : Sig). commit_message (place_in m) (view_in m) digest s) (sym signs)
+
+      me_here : old.id ≡ (view_in m).me
+      me_here = h.id ∙ sym h.me
+
+      letter_here : own_letter old.id (commit_at old digest c.sig) ≡ own_letter (view_in m).me (commit_message (place_in m) (view_in m) digest (b.keys.signs m.signed))
+      letter_here = ap (λ i. own_letter i (commit_at old digest c.sig)) me_here ∙ ap (λ (x : Commit). own_letter (view_in m).me x) commit_here
+
+      view_here : new.view ≡ kept_after (b.keys.accepts (m.signed ++ here ∷ [])) (place_in m) (view_in m) (own_letter (view_in m).me (commit_message (place_in m) (view_in m) digest (b.keys.signs m.signed)))
+      view_here =
+          let letter : Letter = own_letter old.id (commit_at old digest c.sig) in
+          c.votes.after ∙ ap (λ (t : Act). after_act t (kept_after later (place_of old) (at_place (place_of old) old.view) letter)) (sym c.votes.answer)
+          ∙ after_other told (kept_after later (place_of old) (at_place (place_of old) old.view) letter) no_accept no_prepare
+          ∙ ap (λ (w : View). kept_after later (place_of old) w letter) (at_place-at (place_of old) old.view at ∙ h.view)
+          ∙ ap (λ (p : Place). kept_after later p (view_in m) letter) h.place
+          ∙ ap (λ (l : Letter). kept_after later (place_in m) (view_in m) l) letter_here
+          ∙ ap (λ (x : Accepts). kept_after x (place_in m) (view_in m) (own_letter (view_in m).me (commit_message (place_in m) (view_in m) digest (b.keys.signs m.signed)))) (sym signed_later)
+
+      posts_here : to_all (place_of old).config.members old.id (wire.Commit (commit_at old digest c.sig))
+          ≡ to_all (place_in m).config.members (view_in m).me (wire.Commit (commit_message (place_in m) (view_in m) digest (b.keys.signs m.signed)))
+      posts_here =
+          ap (λ (p : Place). to_all p.config.members old.id (wire.Commit (commit_at old digest c.sig))) h.place
+          ∙ ap (λ i. to_all (place_in m).config.members i (wire.Commit (commit_at old digest c.sig))) me_here
+          ∙ ap (λ (x : Commit). to_all (place_in m).config.members (view_in m).me (wire.Commit x)) commit_here
+
+      pub repeats_makes : Makes b (repeats_commit node_returns b.keys digest m) act_of.Kept new (around later tells moments after)
+      unfolding here
+      repeats_makes =
           record {
             id = c.id ∙ h.id;
             config = ap config_of c.store ∙ h.config;
             place = ap (λ (s : Store). place_after (config_of s) (held_of s).blocks) c.store ∙ h.place;
-            view = commit_view accepts b.keys m.signed (place_in m) (view_in m) digest told old new keys last signings before after h.place h.view me at c fit
-                ∙ after_other told (view_in made) no_accept no_prepare;
-            me = me-kept_after (b.keys.accepts made.signed) (place_in m) (view_in m) letter ∙ h.me;
+            view = view_here;
+            me = me-kept_after (b.keys.accepts (m.signed ++ here ∷ [])) (place_in m) (view_in m) (own_letter (view_in m).me (commit_message (place_in m) (view_in m) digest (b.keys.signs m.signed))) ∙ h.me;
             found = ap as_found c.found ∙ h.found;
             held = ap held_of c.store ∙ h.held;
             facts = c.facts ∙ h.facts;
             sends = sent_more m.posts (to_all (place_in m).config.members (view_in m).me (wire.Commit (commit_message (place_in m) (view_in m) digest (b.keys.signs m.signed)))) (map sent_of before.sends) (map sent_of after.sends) h.sends
-                (commit_sends accepts b.keys m.signed (place_in m) (view_in m) digest told old new keys last signings before after h.place h.view me at c fit);
+                (c.sends ∙ ap (λ (l : List steps.Post). map sent_of before.sends ++ map text_of l) posts_here);
             done = c.done ∙ h.done;
-            accepts = commit_accepts accepts b.keys m.signed (place_in m) (view_in m) digest told old new keys last signings before after h.place h.view me at c fit;
-            chain = λ began. subst (λ (s : Store). IsChain (accepts last) b.config (held_of s).blocks) (sym c.store) (chain_stays (accepts keys) (accepts last) b.config (held_of old.store).blocks more (h.chain began));
-            went = goes_accepting b m (accepts keys) (accepts last) tells moments more h.went;
+            accepts = signed_later;
+            chain = λ began. subst (λ (s : Store). IsChain later b.config (held_of s).blocks) (sym c.store) (chain_stays accepts later b.config (held_of old.store).blocks grows (h.chain began));
+            went = goes_accepting b m accepts later tells moments grows h.went;
           }
+
+module _ {K : Type 0} (accepts : K → Accepts) (keys : K) (digest : List ℕ) (old : Running) (before : Out) (signings : List (Signing K)) (tells : Bool) (moments : List State) (b : Before) (m : Step) (h : Makes b m act_of.Kept old (around (accepts keys) tells moments before)) where
+  pub commit_stopped : SignsAtMost (statement_at old digest) signings → IsReady tells moments old → m.state.deeds ≡ [] → Grows accepts keys signings → (fault : NodeFault) → IsNoLimit fault
+      → IsStopped b (repeats_commit node_returns b.keys digest m) (m.signed ++ statements_in signings) (accepts (keys_after keys signings)) tells moments fault
+  commit_stopped most ready none grows fault no_limit =
+      stopped_before b m (repeats_commit node_returns b.keys digest m) old (around (accepts keys) tells moments before) (m.signed ++ statements_in signings) (accepts (keys_after keys signings)) fault ready none refl
+      (grows_keeps accepts keys signings grows) h (repeats_first b m digest old (accepts keys) tells moments before h signings most) no_limit
+
+  pub commit_repeated : (last : K) (told : Act) (new : Running) (after : Out) → StandsAt (place_of old) old.view → ((x : Block) → told ≡ act_of.Accept x → ⊥) → ((x : List ℕ) → told ≡ act_of.Prepare x → ⊥)
+      → Commits digest told old new (accepts last) last signings before after → KeysFit accepts b.keys m.signed keys signings → Grows accepts keys signings
+      → Makes b (repeats_commit node_returns b.keys digest m) act_of.Kept new (around (accepts last) tells moments after)
+  commit_repeated last told new after at no_accept no_prepare c fit grows =
+      let one : List (Signing K) = record { statement = statement_at old digest; sig = c.sig; keys = last } ∷ [] in
+      let fits : KeysFit accepts b.keys m.signed keys one = subst (λ (l : List (Signing K)). KeysFit accepts b.keys m.signed keys l) c.signed fit in
+      let grown : Grows accepts keys one = subst (λ (l : List (Signing K)). Grows accepts keys l) c.signed grows in
+      repeats_makes b m digest old (accepts keys) tells moments before h told new (accepts last) last signings after c at no_accept no_prepare fits.1 fits.2 grown.0
 
 -- WHAT WAS FOUND
 
