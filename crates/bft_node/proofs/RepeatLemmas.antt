@@ -29,7 +29,7 @@ use Rattle.node_model.specs.Steps.{commit_message, to_all}
 use Rattle.view_core.specs.Places.{StandsAt}
 use Rattle.bft_node.specs.Commits.{Commits, SignsAtMost, commit_at, own_letter, statement_at}
 use Rattle.bft_node.specs.Making.{Around, Before, GoesOn, IsFront, IsMade, IsStopped, Makes, Step, around, node_returns, node_ways, place_in, sent_of, text_of, view_in}
-use Rattle.bft_node.specs.NodeFaults.{IsNoLimit}
+use Rattle.bft_node.specs.NodeFaults.{TouchesNoDisk}
 use Rattle.bft_node.specs.Running.{IsReady, as_found, place_of}
 use Rattle.bft_node.specs.Signings.{EndsAt, Grows, KeysFit, Signing, Signs, keys_after, statements_in}
 use Rattle.bft_node.specs.Stores.{config_of, held_of}
@@ -68,12 +68,12 @@ ends_still gives (Err e) k = inl refl
 -- A STEP THAT WAS GIVEN UP before its first deed, with these statements signed
 
 pub stopped_before : (b : Before) (m n : Step) (r : Running) (a : Around) (signed : List (List ℕ)) (accepts : Accepts) (fault : NodeFault) → IsReady a.tells a.moments r → m.state.deeds ≡ [] → n.state.deeds ≡ m.state.deeds
-    → KeepsAccepted a.accepts accepts → Makes b m act_of.Kept r a → IsFront signed n.signed → IsNoLimit fault → IsStopped b n signed accepts a.tells a.moments fault
-stopped_before b m n r a signed accepts fault ready none same keeps h first no_limit =
+    → KeepsAccepted a.accepts accepts → Makes b m act_of.Kept r a → IsFront signed n.signed → TouchesNoDisk fault → IsStopped b n signed accepts a.tells a.moments fault
+stopped_before b m n r a signed accepts fault ready none same keeps h first no_disk =
     let made : IsMade (length m.state.deeds) n.state.deeds n.signed signed =
     subst (λ (ds : List Deed). IsMade (length m.state.deeds) ds n.signed signed) (sym (same ∙ none))
     (subst (λ (ds : List Deed). IsMade (length ds) [] n.signed signed) (sym none) (made_before n.signed signed first)) in
-    stopped_with b m n act_of.Kept r a signed accepts fault (subst (λ (ds : List Deed). IsFront m.state.deeds ds) (sym same) (front_of m.state.deeds)) h ready.kept keeps made no_limit
+    stopped_with b m n act_of.Kept r a signed accepts fault (subst (λ (ds : List Deed). IsFront m.state.deeds ds) (sym same) (front_of m.state.deeds)) h ready.kept keeps made no_disk
 
 -- THE COMMIT
 
@@ -164,11 +164,11 @@ module _ (b : Before) (m : Step) (digest : List ℕ) (old : Running) (accepts : 
           }
 
 module _ {K : Type 0} (accepts : K → Accepts) (keys : K) (digest : List ℕ) (old : Running) (before : Out) (signings : List (Signing K)) (tells : Bool) (moments : List State) (b : Before) (m : Step) (h : Makes b m act_of.Kept old (around (accepts keys) tells moments before)) where
-  pub commit_stopped : SignsAtMost (statement_at old digest) signings → IsReady tells moments old → m.state.deeds ≡ [] → Grows accepts keys signings → (fault : NodeFault) → IsNoLimit fault
+  pub commit_stopped : SignsAtMost (statement_at old digest) signings → IsReady tells moments old → m.state.deeds ≡ [] → Grows accepts keys signings → (fault : NodeFault) → TouchesNoDisk fault
       → IsStopped b (repeats_commit node_returns b.keys digest m) (m.signed ++ statements_in signings) (accepts (keys_after keys signings)) tells moments fault
-  commit_stopped most ready none grows fault no_limit =
+  commit_stopped most ready none grows fault no_disk =
       stopped_before b m (repeats_commit node_returns b.keys digest m) old (around (accepts keys) tells moments before) (m.signed ++ statements_in signings) (accepts (keys_after keys signings)) fault ready none refl
-      (grows_keeps accepts keys signings grows) h (repeats_first b m digest old (accepts keys) tells moments before h signings most) no_limit
+      (grows_keeps accepts keys signings grows) h (repeats_first b m digest old (accepts keys) tells moments before h signings most) no_disk
 
   pub commit_repeated : (last : K) (told : Act) (new : Running) (after : Out) → StandsAt (place_of old) old.view → ((x : Block) → told ≡ act_of.Accept x → ⊥) → ((x : List ℕ) → told ≡ act_of.Prepare x → ⊥)
       → Commits digest told old new (accepts last) last signings before after → KeysFit accepts b.keys m.signed keys signings → Grows accepts keys signings
@@ -200,12 +200,12 @@ round_first keys (Some f) m = if_first keys f.is_prepared (block_hash f.block) (
 
 module _ (b : Before) (m : Step) (old : Running) (accepts : Accepts) (tells : Bool) (moments : List State) (before : Out) (h : Makes b m act_of.Kept old (around accepts tells moments before)) where
   -- given up before anything was signed
-  pub round_stopped : (o : Option Found) → IsReady tells moments old → m.state.deeds ≡ [] → (fault : NodeFault) → IsNoLimit fault
+  pub round_stopped : (o : Option Found) → IsReady tells moments old → m.state.deeds ≡ [] → (fault : NodeFault) → TouchesNoDisk fault
       → IsStopped b (repeat_round node_returns b.keys o m) (m.signed ++ []) accepts tells moments fault
-  round_stopped o ready none fault no_limit =
+  round_stopped o ready none fault no_disk =
       let first : IsFront (m.signed ++ []) (repeat_round node_returns b.keys o m).signed =
       subst (λ l. IsFront l (repeat_round node_returns b.keys o m).signed) (sym (append-nil m.signed)) (round_first b.keys o m) in
-      stopped_before b m (repeat_round node_returns b.keys o m) old (around accepts tells moments before) (m.signed ++ []) accepts fault ready none (round_deeds b.keys o m) (λ statement sig e. e) h first no_limit
+      stopped_before b m (repeat_round node_returns b.keys o m) old (around accepts tells moments before) (m.signed ++ []) accepts fault ready none (round_deeds b.keys o m) (λ statement sig e. e) h first no_disk
 
   module _ (f : Found) where
     -- it is current in the code where it is so by the definition

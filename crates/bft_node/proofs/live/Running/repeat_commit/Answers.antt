@@ -1,6 +1,6 @@
 use Rattle.std.proofs.Common.{inl, subst, sym}
 use Rattle.bft_node.specs.Commits.{SignsAtMost, statement_at}
-use Rattle.bft_node.specs.NodeFaults.{IsNoLimit}
+use Rattle.bft_node.specs.NodeFaults.{TouchesNoDisk}
 use Rattle.bft_node.proofs.MakingLemmas.{given_up}
 use Rattle.bft_node.proofs.RepeatLemmas.{commit_repeated, commit_stopped, repeats_all, repeats_signed, signs_handed}
 use Rattle.bft_node.proofs.live.Running.repeat_commit.Goals as goal
@@ -9,7 +9,7 @@ pub returns-in_err-commit-clause-makes : goal.returns-in_err-commit-clause-makes
 returns-in_err-commit-clause-makes g c =
     signs_handed g.K.Signer.sign_gives c.from_residual.result c.in_err-commit.field-0.0 _ _ (λ signings. SignsAtMost (statement_at c.args.self.now c.args.digest) signings) _ c.from_residual.ensures.1 c.in_err-commit.ensures.signs
     (λ signings most tells moments b m ready none fit grows h. given_up c.from_residual.result _ _ _ c.from_residual.ensures.1
-    (λ fault is. commit_stopped g.K.Verifier.accepts _ c.args.digest c.args.self.now c.args.out.now signings tells moments b m h most ready none grows fault (subst IsNoLimit (sym is) c.in_err-commit.ensures.no_limit)))
+    (λ fault is. commit_stopped g.K.Verifier.accepts _ c.args.digest c.args.self.now c.args.out.now signings tells moments b m h most ready none grows fault (subst TouchesNoDisk (sym is) c.in_err-commit.ensures.no_disk)))
 
 pub returns-in-Accept-clause-makes : goal.returns-in-Accept-clause-makes
 returns-in-Accept-clause-makes g c =
@@ -40,6 +40,6 @@ returns g c =
         );
       };
       later = c.commit.ensures.later;
-      no_limit = tt;
+      no_disk = tt;
       cause = tt;
     }
