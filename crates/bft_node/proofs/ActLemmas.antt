@@ -55,14 +55,14 @@ module _ (b : Before) (m : Step) (block : Block) (first : Place → View → Lis
   accepted_deed : acceptance (place_of r) r.view block ≡ acceptance (place_in m) (view_in m) block
   accepted_deed = ap (λ (w : View). acceptance (place_of r) w block) h.view ∙ ap (λ (p : Place). acceptance p (view_in m) block) h.place
 
-  pub accepted_limit : (fault : NodeFault) → NeedsLimit (acceptance (place_of r) r.view block) (held_of r.store) fault → HasLimit b.held (m.state.deeds ++ acceptance (place_in m) (view_in m) block ∷ []) fault
+  pub accepted_limit : (fault : NodeFault) → NeedsLimit tells (acceptance (place_of r) r.view block) (held_of r.store) fault → HasLimit tells b.held (m.state.deeds ++ acceptance (place_in m) (view_in m) block ∷ []) fault
   accepted_limit = kept_limit b m (act_of.Accept block) r accepts tells moments after out (acceptance (place_of r) r.view block) (acceptance (place_in m) (view_in m) block) accepted_deed h
 
   module _ (within : KeepsWithin (acceptance (place_of r) r.view block) r accepts tells moments after) where
     accepted_went : GoesWithin b (makes_accepted node_ways block (first (place_in m) (view_in m)) m) accepts tells after
     accepted_went = kept_went b m (act_of.Accept block) r accepts tells moments after out (acceptance (place_of r) r.view block) (acceptance (place_in m) (view_in m) block) accepted_deed h within
 
-    pub accepted_stopped : (IsTrue tells → IsKept r.store (now moments)) → (fault : NodeFault) → HasLimit b.held (m.state.deeds ++ acceptance (place_in m) (view_in m) block ∷ []) fault
+    pub accepted_stopped : (IsTrue tells → IsKept r.store (now moments)) → (fault : NodeFault) → HasLimit tells b.held (m.state.deeds ++ acceptance (place_in m) (view_in m) block ∷ []) fault
         → IsStopped b (makes_accepted node_ways block (first (place_in m) (view_in m)) m) m.signed accepts tells after fault
     accepted_stopped kept fault limit =
         record {
@@ -132,7 +132,7 @@ module _ (b : Before) (m : Step) (block : Block) (cert : Cert) (r : Running) (ac
     delivered_went : GoesWithin b (makes_delivered node_ways block cert m) accepts tells after
     delivered_went = kept_went b m (act_of.Deliver block cert) r accepts tells moments after out (Delivers r.view.me block cert) (Delivers (view_in m).me block cert) delivered_deed h within
 
-    pub delivered_stopped : (IsTrue tells → IsKept r.store (now moments)) → (fault : NodeFault) → NeedsLimit (Delivers r.view.me block cert) (held_of r.store) fault → IsStopped b (makes_delivered node_ways block cert m) m.signed accepts tells after fault
+    pub delivered_stopped : (IsTrue tells → IsKept r.store (now moments)) → (fault : NodeFault) → NeedsLimit tells (Delivers r.view.me block cert) (held_of r.store) fault → IsStopped b (makes_delivered node_ways block cert m) m.signed accepts tells after fault
     delivered_stopped kept fault needs =
         record {
           went = delivered_went;

@@ -26,7 +26,7 @@ use Rattle.bft_node.specs.Commits.{Commits, SignsAtMost, commit_at, own_letter, 
 use Rattle.bft_node.specs.Held.{Held, with_deeds}
 use Rattle.bft_node.specs.Keeping.{Keeps, KeepsWithin}
 use Rattle.bft_node.specs.Making.{Before, BeganOnChain, GoesOn, IsFront, IsMade, IsStopped, Makes, OpensMade, Step, Tells, act_in, around, node_ways, place_in, sent_of, text_of, view_in}
-use Rattle.bft_node.specs.NodeFaults.{IsNoLimit, NeedsLimit}
+use Rattle.bft_node.specs.NodeFaults.{TouchesNoDisk, NeedsLimit}
 use Rattle.bft_node.specs.Running.{as_found, place_of}
 use Rattle.bft_node.specs.Signings.{EndsAt, Grows, KeysFit, Signing, keys_after, statements_in}
 use Rattle.bft_node.specs.Stores.{IsKept, config_of, held_of}
@@ -154,7 +154,7 @@ module _ {K : Type 0} (acc : K → Accepts) (b : Before) (m : Step) (digest : Li
   made = makes_prepared node_ways b.keys digest m
 
   -- given up before anything was signed
-  pub prepared_stopped : (fault : NodeFault) → NeedsLimit (preparation (place_of r) r.view digest) (held_of r.store) fault → IsStopped b made (m.signed ++ []) (acc old) tells after fault
+  pub prepared_stopped : (fault : NodeFault) → NeedsLimit tells (preparation (place_of r) r.view digest) (held_of r.store) fault → IsStopped b made (m.signed ++ []) (acc old) tells after fault
   prepared_stopped fault needs =
       let there = preparation (place_of r) r.view digest in
       let next = preparation (place_in m) (view_in m) digest in
@@ -197,8 +197,8 @@ module _ {K : Type 0} (acc : K → Accepts) (b : Before) (m : Step) (digest : Li
       unsent_made : IsMade (length deeds) deeds (m.signed ++ statement ∷ []) (m.signed ++ statements_in signings)
       unsent_made = made_some (statements_in signings) (subst (λ s. IsFront (statements_in signings) (s ∷ [])) (same_statement mid (place_in m) (after_act (act_of.Prepare digest) (view_in m)) digest mid_place mid_view) most)
 
-      pub unsent_stopped : (fault : NodeFault) → IsNoLimit fault → IsStopped b made (m.signed ++ statements_in signings) (acc (keys_after old signings)) tells after fault
-      unsent_stopped fault no_limit =
+      pub unsent_stopped : (fault : NodeFault) → TouchesNoDisk fault → IsStopped b made (m.signed ++ statements_in signings) (acc (keys_after old signings)) tells after fault
+      unsent_stopped fault no_disk =
           let next = preparation (place_in m) (view_in m) digest in
           let keeps = grows_last acc old signings grows in
           record {
@@ -209,7 +209,7 @@ module _ {K : Type 0} (acc : K → Accepts) (b : Before) (m : Step) (digest : Li
                 (kept_opens b mid.store deeds [] (m.signed ++ statement ∷ []) (m.signed ++ statements_in signings) (acc old) judge (now after) (k.still.config ∙ h.config) mid_held (kept_mid t) (mid_chain began)
                 (λ s sig e. more s sig (keeps s sig e)) (subst (λ (l : List Deed). IsMade (length deeds) l (m.signed ++ statement ∷ []) (m.signed ++ statements_in signings)) (sym (append-nil deeds)) unsent_made) image crash);
             signed_first = unsent_made.first;
-            limit = unlimited b.held deeds fault no_limit;
+            limit = unlimited tells b.held deeds fault no_disk;
           }
 
     -- with its Commit

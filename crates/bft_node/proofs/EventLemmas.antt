@@ -29,7 +29,7 @@ use Rattle.node_model.specs.Steps.{FromMember, begins, makes_accepted, preprepar
 use Rattle.view_core.specs.Places.{StandsAt}
 use Rattle.bft_node.specs.Held.{Held}
 use Rattle.bft_node.specs.Making.{Around, Before, Begins, Makes, Step, Tells, act_in, node_ways, place_in, view_in}
-use Rattle.bft_node.specs.NodeFaults.{IsNoLimit}
+use Rattle.bft_node.specs.NodeFaults.{TouchesNoDisk}
 use Rattle.bft_node.specs.Running.{IsReady, IsSound, as_found, place_of, state_of}
 use Rattle.bft_node.specs.Stores.{config_of, held_of}
 use Rattle.bft_node.specs.declared.live.Running.{Running}
@@ -262,8 +262,8 @@ module _ (r : Running) (left : View) (from : ℕ) (message : Prepare) (told : Ac
         (left-kept a.accepts (place_of r) r.view from message told left s.at answer_here after_here none)
 
 -- want of memory is no limit
-pub no_memory : (fault : NodeFault) → fault ≡ node_of.NoMemory → IsNoLimit fault
-no_memory fault e = subst IsNoLimit (sym e) tt
+pub no_memory : (fault : NodeFault) → fault ≡ node_of.NoMemory → TouchesNoDisk fault
+no_memory fault e = subst TouchesNoDisk (sym e) tt
 
 -- A PROPOSAL
 

@@ -76,18 +76,19 @@ keeps_within deed r tells before after went accepts judge keeps chain told =
 -- A WRITE THAT NEEDS MORE THAN MAY BE
 
 -- why the write of a deed failed
-write_needs : (store : Store) (deed : Deed) (limit : Option ℕ) (before later : ℕ) (fault : StoreFault) → write_limit store deed ≡ limit → WriteAnswers limit before later (Err fault) → NeedsLimit deed (held_of store) (store_fault fault)
-write_needs store deed limit before later (store_of.Limit n) same answers =
+write_needs : (tells : Bool) (state : State) (store : Store) (deed : Deed) (limit : Option ℕ) (before later : ℕ) (fault : StoreFault) → (IsTrue tells → IsKept store state) → write_limit store deed ≡ limit → WriteAnswers limit before later (Err fault)
+    → NeedsLimit tells deed (held_of store) (store_fault fault)
+write_needs tells state store deed limit before later (store_of.Limit n) kept same answers =
     let some : IsSome (write_limit store deed) = subst IsSome (sym (same ∙ answers)) refl in
-    inl (refl, (store, refl, some))
-write_needs store deed limit before later store_of.NoMemory same answers = tt
-write_needs store deed limit before later store_of.Disk same answers = tt
+    inl (refl, (store, refl, some, λ t. (state, kept t)))
+write_needs tells state store deed limit before later store_of.NoMemory kept same answers = tt
+write_needs tells state store deed limit before later store_of.Disk kept same answers = tt
 
-pub needs_limit : (store : Store) (deed : Deed) (limit : Option ℕ) (before later : ℕ) (fault : StoreFault) (result : Result (Unit {0}) NodeFault) → write_limit store deed ≡ limit → WriteAnswers limit before later (Err fault)
-    → IsErrAnd result (λ told. told ≡ store_fault fault) → IfErr result (NeedsLimit deed (held_of store))
-needs_limit store deed limit before later fault (Ok x) same answers told = tt
-needs_limit store deed limit before later fault (Err e) same answers told =
-    subst (NeedsLimit deed (held_of store)) (sym told) (write_needs store deed limit before later fault same answers)
+pub needs_limit : (tells : Bool) (state : State) (store : Store) (deed : Deed) (limit : Option ℕ) (before later : ℕ) (fault : StoreFault) (result : Result (Unit {0}) NodeFault) → (IsTrue tells → IsKept store state) → write_limit store deed ≡ limit
+    → WriteAnswers limit before later (Err fault) → IsErrAnd result (λ told. told ≡ store_fault fault) → IfErr result (NeedsLimit tells deed (held_of store))
+needs_limit tells state store deed limit before later fault (Ok x) kept same answers told = tt
+needs_limit tells state store deed limit before later fault (Err e) kept same answers told =
+    subst (NeedsLimit tells deed (held_of store)) (sym told) (write_needs tells state store deed limit before later fault kept same answers)
 
 -- A WRITE THAT WAS GIVEN UP
 
@@ -133,8 +134,8 @@ module _ (b : Before) (m : Step) (told : Act) (r : Running) (accepts : Accepting
         made = subst (λ (l : List (List ℕ)). IsMade (length m.state.deeds + found.done) (m.state.deeds ++ next ∷ []) l m.signed) more.1 (made_upto m.state.deeds next m.signed more.0 found.done found.some count);
       }
 
-  pub kept_limit : (fault : NodeFault) → NeedsLimit deed (held_of r.store) fault → HasLimit b.held (m.state.deeds ++ next ∷ []) fault
-  kept_limit fault needs = limit_of b.held (held_of r.store) m.state.deeds next fault h.held (subst (λ (d : Deed). NeedsLimit d (held_of r.store) fault) same needs)
+  pub kept_limit : (fault : NodeFault) → NeedsLimit tells deed (held_of r.store) fault → HasLimit tells b.held (m.state.deeds ++ next ∷ []) fault
+  kept_limit fault needs = limit_of tells b.held (held_of r.store) m.state.deeds next fault h.held (subst (λ (d : Deed). NeedsLimit tells d (held_of r.store) fault) same needs)
 
   module _ (new : Running) (last : Out) (k : Keeps deed r new out last) where
     pub kept_held : held_of new.store ≡ with_deeds (m.state.deeds ++ next ∷ []) b.held

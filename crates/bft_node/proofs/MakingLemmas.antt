@@ -24,7 +24,7 @@ use Rattle.view_core.specs.Places.{StandsAt}
 use Rattle.bft_node.specs.Crashes.{Image, IsCrash, Opens, Within}
 use Rattle.bft_node.specs.Held.{Held, with_deed, with_deeds}
 use Rattle.bft_node.specs.Making.{Around, Before, GoesOn, GoesWithin, IsFront, IsMade, IsStopped, LeavesMade, Makes, OpensMade, Step, Tells, act_in, around, is_preparation, place_in, view_in}
-use Rattle.bft_node.specs.NodeFaults.{HasLimit, IsNoLimit, NeedsLimit, NeedsMore}
+use Rattle.bft_node.specs.NodeFaults.{HasLimit, TouchesNoDisk, NeedsLimit, NeedsMore}
 use Rattle.bft_node.specs.Running.{as_found, place_of}
 use Rattle.bft_node.specs.Stores.{IsKept, config_of, held_of}
 use Rattle.bft_node.specs.declared.live.Out.{Out}
@@ -166,12 +166,12 @@ kept_opens b store deeds rest all signed accepts judge state config held kept ch
 -- A FAULT'S LIMIT
 
 -- a call that makes nothing durable
-pub unlimited : (held : Held) (deeds : List Deed) (fault : NodeFault) → IsNoLimit fault → HasLimit held deeds fault
-unlimited held deeds node_of.Closed h = tt
-unlimited held deeds (node_of.Limit n) h = absurd h
-unlimited held deeds node_of.NoMemory h = tt
-unlimited held deeds node_of.Disk h = tt
-unlimited held deeds node_of.Sign h = tt
+pub unlimited : (tells : Bool) (held : Held) (deeds : List Deed) (fault : NodeFault) → TouchesNoDisk fault → HasLimit tells held deeds fault
+unlimited tells held deeds node_of.Closed h = tt
+unlimited tells held deeds (node_of.Limit n) h = absurd h
+unlimited tells held deeds node_of.NoMemory h = tt
+unlimited tells held deeds node_of.Disk h = absurd h
+unlimited tells held deeds node_of.Sign h = tt
 
 get-append : {A : Type 0} (xs ys : List A) (k : ℕ) (x : A) → slice_get xs k ≡ Some x → slice_get (xs ++ ys) k ≡ Some x
 get-append [] ys k x e = absurd (cc)
@@ -183,23 +183,23 @@ get-seam [] ys x = refl
 get-seam (y ∷ xs) ys x = get-seam xs ys x
 
 -- of a step that has made more
-pub limit_more : (held : Held) (deeds more : List Deed) (fault : NodeFault) → HasLimit held deeds fault → HasLimit held (deeds ++ more) fault
-limit_more held deeds more node_of.Closed h = tt
-limit_more held deeds more (node_of.Limit n) h =
+pub limit_more : (tells : Bool) (held : Held) (deeds more : List Deed) (fault : NodeFault) → HasLimit tells held deeds fault → HasLimit tells held (deeds ++ more) fault
+limit_more tells held deeds more node_of.Closed h = tt
+limit_more tells held deeds more (node_of.Limit n) h =
     let below : h.0 ≤ length deeds = omega (arith, slice_get_within deeds h.0 h.1 h.2) in
-    (h.0, h.1, get-append deeds more h.0 h.1 h.2, subst (λ (l : List Deed). NeedsMore n h.1 (with_deeds l held)) (sym (take-append-le h.0 deeds more below)) h.3)
-limit_more held deeds more node_of.NoMemory h = tt
-limit_more held deeds more node_of.Disk h = tt
-limit_more held deeds more node_of.Sign h = tt
+    (h.0, h.1, get-append deeds more h.0 h.1 h.2, subst (λ (l : List Deed). NeedsMore tells n h.1 (with_deeds l held)) (sym (take-append-le h.0 deeds more below)) h.3)
+limit_more tells held deeds more node_of.NoMemory h = tt
+limit_more tells held deeds more node_of.Disk h = omega (arith, length-append deeds more, h)
+limit_more tells held deeds more node_of.Sign h = tt
 
 -- of the deed that is to come
-pub limit_of : (held there : Held) (deeds : List Deed) (deed : Deed) (fault : NodeFault) → there ≡ with_deeds deeds held → NeedsLimit deed there fault → HasLimit held (deeds ++ deed ∷ []) fault
-limit_of held there deeds deed node_of.Closed e h = tt
-limit_of held there deeds deed (node_of.Limit n) e h =
-    (length deeds, deed, get-seam deeds [] deed, subst (λ (x : Held). NeedsMore n deed x) (e ∙ ap (λ (l : List Deed). with_deeds l held) (sym (take-append_seam deeds (deed ∷ [])))) h)
-limit_of held there deeds deed node_of.NoMemory e h = tt
-limit_of held there deeds deed node_of.Disk e h = tt
-limit_of held there deeds deed node_of.Sign e h = tt
+pub limit_of : (tells : Bool) (held there : Held) (deeds : List Deed) (deed : Deed) (fault : NodeFault) → there ≡ with_deeds deeds held → NeedsLimit tells deed there fault → HasLimit tells held (deeds ++ deed ∷ []) fault
+limit_of tells held there deeds deed node_of.Closed e h = tt
+limit_of tells held there deeds deed (node_of.Limit n) e h =
+    (length deeds, deed, get-seam deeds [] deed, subst (λ (x : Held). NeedsMore tells n deed x) (e ∙ ap (λ (l : List Deed). with_deeds l held) (sym (take-append_seam deeds (deed ∷ [])))) h)
+limit_of tells held there deeds deed node_of.NoMemory e h = tt
+limit_of tells held there deeds deed node_of.Disk e h = omega (arith, length-append deeds (deed ∷ []))
+limit_of tells held there deeds deed node_of.Sign e h = tt
 
 -- A STEP THAT WAS GIVEN UP
 
@@ -210,14 +210,14 @@ stopped_more b m n signed accepts tells moments fault more s =
       went = goes_within b m n accepts tells moments more.deeds s.went;
       left = leaves_more b m n signed accepts tells moments more s.left;
       signed_first = front_then signed m.signed n.signed s.signed_first more.signed;
-      limit = subst (λ (ds : List Deed). HasLimit b.held ds fault) more.deeds.1 (limit_more b.held m.state.deeds more.deeds.0 fault s.limit);
+      limit = subst (λ (ds : List Deed). HasLimit tells b.held ds fault) more.deeds.1 (limit_more tells b.held m.state.deeds more.deeds.0 fault s.limit);
     }
 
 -- Given up in a call that makes nothing durable, with these statements signed and this accepted after them. The store is kept.
 pub stopped_with : (b : Before) (m n : Step) (told : Act) (r : Running) (a : Around) (signed : List (List ℕ)) (accepts : Accepts) (fault : NodeFault) → IsFront m.state.deeds n.state.deeds → Makes b m told r a
-    → (IsTrue a.tells → IsKept r.store (now a.moments)) → KeepsAccepted a.accepts accepts → IsMade (length m.state.deeds) n.state.deeds n.signed signed → IsNoLimit fault
+    → (IsTrue a.tells → IsKept r.store (now a.moments)) → KeepsAccepted a.accepts accepts → IsMade (length m.state.deeds) n.state.deeds n.signed signed → TouchesNoDisk fault
     → IsStopped b n signed accepts a.tells a.moments fault
-stopped_with b m n told r a signed accepts fault more h kept keeps made no_limit =
+stopped_with b m n told r a signed accepts fault more h kept keeps made no_disk =
     record {
       went = goes_accepting b n a.accepts accepts a.tells a.moments keeps (goes_within b m n a.accepts a.tells a.moments more h.went);
       left = λ began judge grows t image crash.
@@ -225,18 +225,18 @@ stopped_with b m n told r a signed accepts fault more h kept keeps made no_limit
           (kept_opens b r.store m.state.deeds more.0 n.signed signed a.accepts judge (now a.moments) h.config h.held (kept t) (h.chain began) (λ statement sig e. grows statement sig (keeps statement sig e))
           (subst (λ (ds : List Deed). IsMade (length m.state.deeds) ds n.signed signed) (sym more.1) made) image crash);
       signed_first = made.first;
-      limit = unlimited b.held n.state.deeds fault no_limit;
+      limit = unlimited a.tells b.held n.state.deeds fault no_disk;
     }
 
 -- the same, where nothing more was signed
-pub stopped : (b : Before) (m n : Step) (told : Act) (r : Running) (a : Around) (fault : NodeFault) → Extends m n → Makes b m told r a → (IsTrue a.tells → IsKept r.store (now a.moments)) → IsNoLimit fault
+pub stopped : (b : Before) (m n : Step) (told : Act) (r : Running) (a : Around) (fault : NodeFault) → Extends m n → Makes b m told r a → (IsTrue a.tells → IsKept r.store (now a.moments)) → TouchesNoDisk fault
     → IsStopped b n m.signed a.accepts a.tells a.moments fault
-stopped b m n told r a fault more h kept no_limit =
+stopped b m n told r a fault more h kept no_disk =
     let same = made_all m.state.deeds more.deeds.0 m.signed more.signed.0 more.rests in
     let made : IsMade (length m.state.deeds) n.state.deeds n.signed m.signed =
     subst (λ (ds : List Deed). IsMade (length m.state.deeds) ds n.signed m.signed) more.deeds.1
     (subst (λ (all : List (List ℕ)). IsMade (length m.state.deeds) (m.state.deeds ++ more.deeds.0) all m.signed) more.signed.1 same) in
-    stopped_with b m n told r a m.signed a.accepts fault more.deeds h kept (λ statement sig e. e) made no_limit
+    stopped_with b m n told r a m.signed a.accepts fault more.deeds h kept (λ statement sig e. e) made no_disk
 
 -- THE VIEW ALONE
 

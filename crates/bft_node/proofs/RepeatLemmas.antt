@@ -24,7 +24,7 @@ use Rattle.node_model.specs.Steps.{commit_message, to_all}
 use Rattle.view_core.specs.Places.{StandsAt}
 use Rattle.bft_node.specs.Commits.{Commits, SignsAtMost, statement_at}
 use Rattle.bft_node.specs.Making.{Around, Before, GoesOn, IsFront, IsMade, IsStopped, Makes, Step, around, node_returns, node_ways, place_in, sent_of, text_of, view_in}
-use Rattle.bft_node.specs.NodeFaults.{IsNoLimit}
+use Rattle.bft_node.specs.NodeFaults.{TouchesNoDisk}
 use Rattle.bft_node.specs.Running.{IsReady, as_found, place_of}
 use Rattle.bft_node.specs.Signings.{Grows, KeysFit, Signing, keys_after, statements_in}
 use Rattle.bft_node.specs.Stores.{config_of, held_of}
@@ -41,12 +41,12 @@ use Rattle.bft_node.proofs.ViewLemmas.{me-kept_after}
 -- A STEP THAT WAS GIVEN UP before its first deed, with these statements signed
 
 pub stopped_before : (b : Before) (m n : Step) (r : Running) (a : Around) (signed : List (List ℕ)) (accepts : Accepts) (fault : NodeFault) → IsReady a.tells a.moments r → m.state.deeds ≡ [] → n.state.deeds ≡ m.state.deeds
-    → KeepsAccepted a.accepts accepts → Makes b m act_of.Kept r a → IsFront signed n.signed → IsNoLimit fault → IsStopped b n signed accepts a.tells a.moments fault
-stopped_before b m n r a signed accepts fault ready none same keeps h first no_limit =
+    → KeepsAccepted a.accepts accepts → Makes b m act_of.Kept r a → IsFront signed n.signed → TouchesNoDisk fault → IsStopped b n signed accepts a.tells a.moments fault
+stopped_before b m n r a signed accepts fault ready none same keeps h first no_disk =
     let made : IsMade (length m.state.deeds) n.state.deeds n.signed signed =
     subst (λ (ds : List Deed). IsMade (length m.state.deeds) ds n.signed signed) (sym (same ∙ none))
     (subst (λ (ds : List Deed). IsMade (length ds) [] n.signed signed) (sym none) (made_before n.signed signed first)) in
-    stopped_with b m n act_of.Kept r a signed accepts fault (subst (λ (ds : List Deed). IsFront m.state.deeds ds) (sym same) (front_of m.state.deeds)) h ready.kept keeps made no_limit
+    stopped_with b m n act_of.Kept r a signed accepts fault (subst (λ (ds : List Deed). IsFront m.state.deeds ds) (sym same) (front_of m.state.deeds)) h ready.kept keeps made no_disk
 
 -- THE COMMIT
 
@@ -60,13 +60,13 @@ after_other (act_of.Nothing reason) w a p = refl
 
 module _ {K : Type 0} (accepts : K → Accepts) (keys : K) (digest : List ℕ) (old : Running) (before : Out) (signings : List (Signing K)) (tells : Bool) (moments : List State) (b : Before) (m : Step) (h : Makes b m act_of.Kept old (around (accepts keys) tells moments before)) where
   -- given up where at most this is signed
-  pub commit_stopped : SignsAtMost (statement_at old digest) signings → IsReady tells moments old → m.state.deeds ≡ [] → Grows accepts keys signings → (fault : NodeFault) → IsNoLimit fault
+  pub commit_stopped : SignsAtMost (statement_at old digest) signings → IsReady tells moments old → m.state.deeds ≡ [] → Grows accepts keys signings → (fault : NodeFault) → TouchesNoDisk fault
       → IsStopped b (repeats_commit node_returns b.keys digest m) (m.signed ++ statements_in signings) (accepts (keys_after keys signings)) tells moments fault
-  commit_stopped most ready none grows fault no_limit =
+  commit_stopped most ready none grows fault no_disk =
       let first : IsFront (m.signed ++ statements_in signings) (repeats_commit node_returns b.keys digest m).signed =
       (most.0, append_assoc m.signed (statements_in signings) most.0 ∙ ap (λ l. m.signed ++ l) most.1 ∙ ap (λ s. m.signed ++ s ∷ []) (same_statement old (place_in m) (view_in m) digest h.place h.view)) in
       stopped_before b m (repeats_commit node_returns b.keys digest m) old (around (accepts keys) tells moments before) (m.signed ++ statements_in signings) (accepts (keys_after keys signings)) fault ready none refl
-      (grows_last accepts keys signings grows) h first no_limit
+      (grows_last accepts keys signings grows) h first no_disk
 
   module _ (last : K) (told : Act) (new : Running) (after : Out) (at : StandsAt (place_of old) old.view) (c : Commits digest told old new (accepts last) last signings before after) where
     -- all of it is signed
@@ -124,12 +124,12 @@ round_first keys (Some f) m = if_first keys f.is_prepared (block_hash f.block) (
 
 module _ (b : Before) (m : Step) (old : Running) (accepts : Accepts) (tells : Bool) (moments : List State) (before : Out) (h : Makes b m act_of.Kept old (around accepts tells moments before)) where
   -- given up before anything was signed
-  pub round_stopped : (o : Option Found) → IsReady tells moments old → m.state.deeds ≡ [] → (fault : NodeFault) → IsNoLimit fault
+  pub round_stopped : (o : Option Found) → IsReady tells moments old → m.state.deeds ≡ [] → (fault : NodeFault) → TouchesNoDisk fault
       → IsStopped b (repeat_round node_returns b.keys o m) (m.signed ++ []) accepts tells moments fault
-  round_stopped o ready none fault no_limit =
+  round_stopped o ready none fault no_disk =
       let first : IsFront (m.signed ++ []) (repeat_round node_returns b.keys o m).signed =
       subst (λ l. IsFront l (repeat_round node_returns b.keys o m).signed) (sym (append-nil m.signed)) (round_first b.keys o m) in
-      stopped_before b m (repeat_round node_returns b.keys o m) old (around accepts tells moments before) (m.signed ++ []) accepts fault ready none (round_deeds b.keys o m) (λ statement sig e. e) h first no_limit
+      stopped_before b m (repeat_round node_returns b.keys o m) old (around accepts tells moments before) (m.signed ++ []) accepts fault ready none (round_deeds b.keys o m) (λ statement sig e. e) h first no_disk
 
   module _ (f : Found) where
     -- it is current in the code where it is so by the definition

@@ -1,16 +1,18 @@
 -- What a step makes of an event, and what it answers and leaves.
-use Rattle.std.proofs.Common.{◌≡◌, ℕ, Bool, List, [], ◌++◌, map, length, Option, Some, None, Result, Ok, Err, IsErrAnd, IsTrue, refl, sym, ap, subst, ◌∙◌}
+use Rattle.std.proofs.Common.{◌≡◌, ℕ, Bool, List, [], ◌++◌, map, length, Option, Some, None, Result, Ok, Err, IsErrAnd, IsTrue, refl, sym, ap, subst, ◌∙◌, arith}
 use Rattle.std.proofs.lemmas.List.{append-nil}
 use Rattle.ord_types.specs.declared.values.Place.{Place}
 use Rattle.gate_log.specs.Disk.{State, now}
 use Rattle.safety_model.specs.Blocks.{Block, Request}
 use Rattle.signer_edge.specs.Accepts.{Accepts}
+use Rattle.block_ledger.proofs.Placing.{height_of_place}
 use Rattle.node_model.specs.declared.act.Act.TheVariants as act_of
 use Rattle.node_model.specs.Acts.{View, proposed}
 use Rattle.node_model.specs.Deeds.{Deed, unlogged}
 use Rattle.node_model.specs.Restarts.{Found, Returned, current, repeat_round, step}
 use Rattle.node_model.specs.Steps as steps
 use Rattle.node_model.specs.Steps.{FromMember, Keys, Tick, begins, propose_round, rounds}
+use Rattle.view_core.specs.Places.{IsPlace}
 use Rattle.bft_node.specs.Making.{Around, Before, Begins, GoesOn, IsMade, IsStopped, Makes, OpensMade, Step, around, node_returns, node_ways, place_in, sent_of, view_in}
 use Rattle.bft_node.specs.NodeFaults.{HasLimit}
 use Rattle.bft_node.specs.NodeSteps.{TakesStep, step_from}
@@ -98,8 +100,8 @@ same_returned p q w v f g place view found = ap (λ x. returned x w f) place ∙
 
 module _ (model : Keys) (old new : Running) (event : steps.Event) (signed : List (List ℕ)) (first accepts : Accepts) (tells : Bool) (before after : List State) where
   pub takes_ok : (out : Out) → Makes (before_of model old first before) (step_from model old event) act_of.Kept new (around accepts tells after out) → (step_from model old event).signed ≡ signed
-      → (IsTrue tells → IsKept new.store (now after)) → TakesStep model old new event signed first accepts (Ok out) tells before after
-  takes_ok out h all kept =
+      → IsPlace (place_of new) → (IsTrue tells → IsKept new.store (now after)) → TakesStep model old new event signed first accepts (Ok out) tells before after
+  takes_ok out h all place kept =
       let b : Before = before_of model old first before in
       let m : Step = step_from model old event in
       let deeds : List Deed = m.state.deeds in
@@ -120,14 +122,14 @@ module _ (model : Keys) (old new : Running) (event : steps.Event) (signed : List
             subst (λ (ds : List Deed). OpensMade judge b.config ds b.held m.signed signed image) (append-nil deeds)
             (kept_opens b new.store deeds [] m.signed signed accepts judge (now after) h.config h.held (kept t) (h.chain began) keeps made image crash);
         chain = h.chain;
-        limit = tt;
+        limit = omega (arith, height_of_place (config_of new.store) (held_of new.store).blocks, place.height);
       }
 
   pub takes_err : (result : Result Out NodeFault) (fault : NodeFault) → IsErrAnd result (λ x. x ≡ fault) → IsStopped (before_of model old first before) (step_from model old event) signed accepts tells after fault
       → TakesStep model old new event signed first accepts result tells before after
   takes_err (Ok out) fault is h = absurd is
   takes_err (Err x) fault is h =
-      record { steps = h.signed_first; within = h.went; leaves = h.left; chain = tt; limit = subst (HasLimit (held_of old.store) (step_from model old event).state.deeds) (sym is) h.limit }
+      record { steps = h.signed_first; within = h.went; leaves = h.left; chain = tt; limit = subst (HasLimit tells (held_of old.store) (step_from model old event).state.deeds) (sym is) h.limit }
 
 -- what is accepted and what the disk tells by other names
 pub takes_as : (model : Keys) (old new : Running) (event : steps.Event) (signed : List (List ℕ)) (first one two : Accepts) (result : Result Out NodeFault) (t u : Bool) (before after : List State) → one ≡ two → t ≡ u

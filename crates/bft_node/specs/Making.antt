@@ -155,7 +155,7 @@ pub record IsStopped (b : Before) (m : Step) (signed : List (List ℕ)) (accepts
   pub went : GoesWithin b m accepts tells moments
   pub left : LeavesMade b m signed accepts tells moments
   pub signed_first : IsFront signed m.signed
-  pub limit : HasLimit b.held m.state.deeds fault
+  pub limit : HasLimit tells b.held m.state.deeds fault
 
 -- what follows for an Ok, and what for any failure
 abbrev pub GoesOn : {T E : Type 0} → Result T E → (T → Type 0) → (E → Type 0) → Type 0

@@ -1,13 +1,14 @@
 -- Why a step wasn't done.
-use Rattle.std.specs.Prelude.{ℕ, ◌^◌, ◌≤◌, ◌⊎◌, ◌≡◌, Bool, true, false, List, length, take, slice_get, Option, Some, IsSome, Result, Ok, Err}
+use Rattle.std.specs.Prelude.{ℕ, ◌^◌, ◌≤◌, ◌⊎◌, ◌≡◌, Bool, true, false, IsTrue, List, length, take, slice_get, Option, Some, IsSome, Result, Ok, Err}
 use Rattle.ord_types.specs.Causes.{Rose}
 use Rattle.ord_types.specs.declared.values.Proof.TheVariants.{Bft}
 use Rattle.bft_wal.specs.declared.record.WalRecord.TheVariants as record_of
+use Rattle.gate_log.specs.Disk.{State}
 use Rattle.node_model.specs.Deeds.{Deed, Accepts, Prepares, Delivers}
 use Rattle.signer_edge.specs.declared.signing.SignFault.{SignFault}
 use Rattle.signer_edge.specs.declared.signing.SignFault.TheVariants as sign_of
 use Rattle.bft_node.specs.Held.{Held, with_deeds}
-use Rattle.bft_node.specs.Stores.{held_of, ledger_limit, log_limit}
+use Rattle.bft_node.specs.Stores.{IsKept, held_of, ledger_limit, log_limit}
 use Rattle.bft_node.specs.declared.store.Store.{Store}
 use Rattle.bft_node.specs.declared.fault.StoreFault.{StoreFault}
 use Rattle.bft_node.specs.declared.fault.StoreFault.TheVariants as store_of
@@ -45,27 +46,29 @@ is_delivery (Delivers i b cert) = true
 is_delivery (Accepts i e v s b) = false
 is_delivery (Prepares i e v s d) = false
 
--- A deed of a node that holds so would make a file too long, or is the delivery after which no number is left.
-abbrev pub NeedsMore : ℕ → Deed → Held → Type 0
-NeedsMore limit deed held =
-    ((limit ≡ 2 ^ 62) × ((store : Store) × (held_of store ≡ held) × IsSome (write_limit store deed)))
+-- A deed of a node that holds so would make a file too long, or is the delivery after which no number is left. Where the disk tells, the
+-- files are those in which the node's store is kept.
+abbrev pub NeedsMore : Bool → ℕ → Deed → Held → Type 0
+NeedsMore tells limit deed held =
+    ((limit ≡ 2 ^ 62) × ((store : Store) × (held_of store ≡ held) × IsSome (write_limit store deed) × (IsTrue tells → (state : State) × IsKept store state)))
     ⊎ ((limit ≡ 4611686018427387903) × (is_delivery deed ≡ true) × (4611686018427387903 ≤ length held.blocks))
 
 -- the same of the deed at which a call fails
-abbrev pub NeedsLimit : Deed → Held → NodeFault → Type 0
-NeedsLimit deed held node_of.Closed = Unit {0}
-NeedsLimit deed held (node_of.Limit n) = NeedsMore n deed held
-NeedsLimit deed held node_of.NoMemory = Unit {0}
-NeedsLimit deed held node_of.Disk = Unit {0}
-NeedsLimit deed held node_of.Sign = Unit {0}
+abbrev pub NeedsLimit : Bool → Deed → Held → NodeFault → Type 0
+NeedsLimit tells deed held node_of.Closed = Unit {0}
+NeedsLimit tells deed held (node_of.Limit n) = NeedsMore tells n deed held
+NeedsLimit tells deed held node_of.NoMemory = Unit {0}
+NeedsLimit tells deed held node_of.Disk = Unit {0}
+NeedsLimit tells deed held node_of.Sign = Unit {0}
 
--- one of these deeds, where those before it are done
-abbrev pub HasLimit : Held → List Deed → NodeFault → Type 0
-HasLimit held deeds node_of.Closed = Unit {0}
-HasLimit held deeds (node_of.Limit n) = (k : ℕ) × (deed : Deed) × (slice_get deeds k ≡ Some deed) × NeedsMore n deed (with_deeds (take k deeds) held)
-HasLimit held deeds node_of.NoMemory = Unit {0}
-HasLimit held deeds node_of.Disk = Unit {0}
-HasLimit held deeds node_of.Sign = Unit {0}
+-- One of these deeds needs more, where those before it are done. A disk fails only where there is a deed.
+abbrev pub HasLimit : Bool → Held → List Deed → NodeFault → Type 0
+HasLimit tells held deeds node_of.Closed = Unit {0}
+HasLimit tells held deeds (node_of.Limit n) =
+    (k : ℕ) × (deed : Deed) × (slice_get deeds k ≡ Some deed) × NeedsMore tells n deed (with_deeds (take k deeds) held)
+HasLimit tells held deeds node_of.NoMemory = Unit {0}
+HasLimit tells held deeds node_of.Disk = 1 ≤ length deeds
+HasLimit tells held deeds node_of.Sign = Unit {0}
 
 -- a device is named only where its count rose; Closed is told by no call of a node that runs
 abbrev pub HasNodeCause : {T : Type 0} → Counts → Counts → Result T NodeFault → Type 0
@@ -76,10 +79,10 @@ HasNodeCause before now (Err node_of.NoMemory) = Unit {0}
 HasNodeCause before now (Err node_of.Disk) = Rose before.disk now.disk
 HasNodeCause before now (Err node_of.Sign) = Rose before.keys now.keys
 
--- a call that makes nothing durable needs no more than may be
-abbrev pub IsNoLimit : NodeFault → Type 0
-IsNoLimit node_of.Closed = Unit {0}
-IsNoLimit (node_of.Limit n) = ⊥
-IsNoLimit node_of.NoMemory = Unit {0}
-IsNoLimit node_of.Disk = Unit {0}
-IsNoLimit node_of.Sign = Unit {0}
+-- a call that makes nothing durable tells no fault of the disk, and needs no more than may be
+abbrev pub TouchesNoDisk : NodeFault → Type 0
+TouchesNoDisk node_of.Closed = Unit {0}
+TouchesNoDisk (node_of.Limit n) = ⊥
+TouchesNoDisk node_of.NoMemory = Unit {0}
+TouchesNoDisk node_of.Disk = ⊥
+TouchesNoDisk node_of.Sign = Unit {0}

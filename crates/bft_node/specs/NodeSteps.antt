@@ -1,5 +1,5 @@
 -- What a step of a node answers and leaves.
-use Rattle.std.specs.Prelude.{◌≡◌, ℕ, Bool, List, map, IsTrue, Result, Ok, Err}
+use Rattle.std.specs.Prelude.{◌≡◌, ◌≤◌, ℕ, Bool, List, length, map, IsTrue, Result, Ok, Err}
 use Rattle.std.specs.List.{flat_map}
 use Rattle.gate_log.specs.Disk.{State, now}
 use Rattle.gate_log.specs.Runs.{Went}
@@ -57,10 +57,11 @@ abbrev pub StepsOnChain : Running → Running → Accepts → Accepts → Result
 StepsOnChain old new first accepts (Ok out) = IsChain first (config_of old.store) (held_of old.store).blocks → IsChain accepts (config_of old.store) (held_of new.store).blocks
 StepsOnChain old new first accepts (Err fault) = Unit {0}
 
--- the number or the length that a step needed, where that is told
-abbrev pub StepsLimit : Keys → Running → Event → Result Out NodeFault → Type 0
-StepsLimit keys old event (Ok out) = Unit {0}
-StepsLimit keys old event (Err fault) = HasLimit (held_of old.store) (deeds_of returned_returns keys (state_of old) event) fault
+-- The number or the length that a step needed, where that is told. One that was done needed no block of a number above 2^62 - 1: the blocks
+-- are numbered from 0, so the next one has their count as its number.
+abbrev pub StepsLimit : Keys → Running → Running → Event → Bool → Result Out NodeFault → Type 0
+StepsLimit keys old new event tells (Ok out) = length (held_of new.store).blocks ≤ 4611686018427387903
+StepsLimit keys old new event tells (Err fault) = HasLimit tells (held_of old.store) (deeds_of returned_returns keys (state_of old) event) fault
 
 -- WHAT A STEP DOES: its answer, and what it leaves at each moment and at its end.
 pub record TakesStep (keys : Keys) (old new : Running) (event : Event) (signed : List (List ℕ)) (first accepts : Accepts) (result : Result Out NodeFault) (tells : Bool) (before after : List State) : Type 0 where
@@ -68,4 +69,4 @@ pub record TakesStep (keys : Keys) (old new : Running) (event : Event) (signed :
   pub within : StepsWithin keys old event first accepts tells before after
   pub leaves : StepsLeave keys old event signed first accepts tells after
   pub chain : StepsOnChain old new first accepts result
-  pub limit : StepsLimit keys old event result
+  pub limit : StepsLimit keys old new event tells result

@@ -7,7 +7,7 @@ ghost use Rattle.node_model.specs.Steps.{makes_accepted, makes_delivered, makes_
 ghost use Rattle.view_core.specs.Fits.{FitsAct};
 ghost use Rattle.bft_node.specs.Commits.{Commits, SignsAtMost, commit_at, statement_at};
 ghost use Rattle.bft_node.specs.Making.{Around, Before, Ends, GoesOn, HasNoneToAccept, IsStopped, Makes, Step, Tells, accepted_in, around, is_delivering, node_ways, prepared_in};
-ghost use Rattle.bft_node.specs.NodeFaults.{HasNodeCause, IsNoLimit, counts};
+ghost use Rattle.bft_node.specs.NodeFaults.{HasNodeCause, TouchesNoDisk, counts};
 ghost use Rattle.bft_node.specs.Running.{IsReady, IsSame, IsSound};
 ghost use Rattle.bft_node.specs.Signings.{Grows, KeysFit, Signs, keys_after, statements_in};
 
@@ -60,7 +60,7 @@ impl Running {
         ensures fits { IfOk result (λ commit. FitsSig commit.sig) }
         ensures signs { Signs K.sign_gives result keys.old keys.new (λ signings. GoesOn result (λ commit. (commit ≡ commit_at self.now digest commit.sig) × (signings ≡ record { statement = statement_at self.now digest; sig = commit.sig; keys = keys.new } ∷ [])) (λ _. signings ≡ [])) }
         ensures later { K.faults keys.old ≤ K.faults keys.new }
-        ensures no_limit { IfErr result IsNoLimit }
+        ensures no_disk { IfErr result TouchesNoDisk }
         ensures cause { HasNodeCause (counts 0 (K.faults keys.old)) (counts 0 (K.faults keys.new)) result }
     {
         let place = self.store.ledger.place();
@@ -93,7 +93,7 @@ impl Running {
         ensures fits { IfOk result FitsAct }
         ensures signs { Signs K.sign_gives result keys.old keys.new (λ signings. GoesOn result (λ told. Commits digest told self.old self.new (K.accepts keys.new) keys.new signings out.old out.new) (λ _. SignsAtMost (statement_at self.old digest) signings)) }
         ensures later { K.faults keys.old ≤ K.faults keys.new }
-        ensures no_limit { IfErr result IsNoLimit }
+        ensures no_disk { IfErr result TouchesNoDisk }
         ensures cause { HasNodeCause (counts 0 (K.faults keys.old)) (counts 0 (K.faults keys.new)) result }
     {
         let commit = self.signed_commit(digest, keys)?;

@@ -76,7 +76,7 @@ impl Running {
         ensures ready { OnOk result (IsReady (D.tells disk.new) (D.moments disk.new) self.new) }
         ensures keeps { OnOk result (Keeps (acceptance (place_of self.old) self.old.view block) self.old self.new out.old out.new) }
         ensures any_moment { (accepts : SomeAccepts) → KeepsWithin (acceptance (place_of self.old) self.old.view block) self.old accepts (D.tells disk.old) (D.moments disk.old) (D.moments disk.new) }
-        ensures limit { IfErr result (NeedsLimit (acceptance (place_of self.old) self.old.view block) (held_of self.old.store)) }
+        ensures limit { IfErr result (NeedsLimit (D.tells disk.old) (acceptance (place_of self.old) self.old.view block) (held_of self.old.store)) }
         ensures tells { D.tells disk.new ≡ D.tells disk.old }
         ensures later { D.faults disk.old ≤ D.faults disk.new }
         ensures cause { HasNodeCause (counts (D.faults disk.old) 0) (counts (D.faults disk.new) 0) result }
@@ -113,7 +113,7 @@ impl Running {
         ensures ready { OnOk result (IsReady (D.tells disk.new) (D.moments disk.new) self.new) }
         ensures keeps { OnOk result (Keeps (preparation (place_of self.old) self.old.view digest) self.old self.new out.old out.new) }
         ensures any_moment { (accepts : SomeAccepts) → KeepsWithin (preparation (place_of self.old) self.old.view digest) self.old accepts (D.tells disk.old) (D.moments disk.old) (D.moments disk.new) }
-        ensures limit { IfErr result (NeedsLimit (preparation (place_of self.old) self.old.view digest) (held_of self.old.store)) }
+        ensures limit { IfErr result (NeedsLimit (D.tells disk.old) (preparation (place_of self.old) self.old.view digest) (held_of self.old.store)) }
         ensures tells { D.tells disk.new ≡ D.tells disk.old }
         ensures later { D.faults disk.old ≤ D.faults disk.new }
         ensures cause { HasNodeCause (counts (D.faults disk.old) 0) (counts (D.faults disk.new) 0) result }
@@ -149,7 +149,7 @@ impl Running {
         ensures place { OnOk result (IsPlace (place_of self.new)) }
         ensures keeps { OnOk result (Keeps (Delivers self.old.view.me block cert) self.old self.new out.old out.new) }
         ensures any_moment { KeepsWithin (Delivers self.old.view.me block cert) self.old (V.accepts keys.now) (D.tells disk.old) (D.moments disk.old) (D.moments disk.new) }
-        ensures limit { IfErr result (NeedsLimit (Delivers self.old.view.me block cert) (held_of self.old.store)) }
+        ensures limit { IfErr result (NeedsLimit (D.tells disk.old) (Delivers self.old.view.me block cert) (held_of self.old.store)) }
         ensures tells { D.tells disk.new ≡ D.tells disk.old }
         ensures later { D.faults disk.old ≤ D.faults disk.new }
         ensures cause { HasNodeCause (counts (D.faults disk.old) 0) (counts (D.faults disk.new) 0) result }

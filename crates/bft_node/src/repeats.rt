@@ -8,7 +8,7 @@ ghost use Rattle.node_model.specs.Leading.{leader};
 ghost use Rattle.node_model.specs.Restarts.{Found as FoundOnce, current, is_current, repeat_round, repeated_votes, repeats_commit};
 ghost use Rattle.node_model.specs.Steps.{to_all};
 ghost use Rattle.bft_node.specs.Making.{Before, GoesOn, IsStopped, Makes, Step, around, node_returns, place_in, sent_of, text_of, view_in};
-ghost use Rattle.bft_node.specs.NodeFaults.{HasNodeCause, IsNoLimit, counts};
+ghost use Rattle.bft_node.specs.NodeFaults.{HasNodeCause, TouchesNoDisk, counts};
 ghost use Rattle.bft_node.specs.Running.{IsReady, IsSame, IsSound, as_found, place_of};
 ghost use Rattle.bft_node.specs.Signings.{Grows, KeysFit, Signs, keys_after, statements_in};
 
@@ -76,7 +76,7 @@ impl Running {
         ensures ready { (tells : Bool) (moments : Items State) → IsReady tells moments self.old → IsReady tells moments self.new }
         ensures makes { Signs K.sign_gives result keys.old keys.new (λ signings. (tells : Bool) (moments : Items State) (b : Before) (m : Step) → IsReady tells moments self.old → m.state.deeds ≡ [] → KeysFit K.accepts b.keys m.signed keys.old signings → Grows K.accepts keys.old signings → Makes b m act_of.Kept self.old (around (K.accepts keys.old) tells moments out.old) → GoesOn result (λ _. Makes b (repeat_round node_returns b.keys (current (place_in m) (view_in m) (as_found (Some found.now))) m) act_of.Kept self.new (around (K.accepts keys.new) tells moments out.new) × ((repeat_round node_returns b.keys (current (place_in m) (view_in m) (as_found (Some found.now))) m).signed ≡ m.signed ++ statements_in signings)) (λ fault. IsStopped b (repeat_round node_returns b.keys (current (place_in m) (view_in m) (as_found (Some found.now))) m) (m.signed ++ statements_in signings) (K.accepts (keys_after keys.old signings)) tells moments fault)) }
         ensures later { K.faults keys.old ≤ K.faults keys.new }
-        ensures no_limit { IfErr result IsNoLimit }
+        ensures no_disk { IfErr result TouchesNoDisk }
         ensures cause { HasNodeCause (counts 0 (K.faults keys.old)) (counts 0 (K.faults keys.new)) result }
     {
         if !self.is_current(found) {
@@ -106,7 +106,7 @@ impl Running {
         ensures ready { (tells : Bool) (moments : Items State) → IsReady tells moments self.old → IsReady tells moments self.new }
         ensures makes { Signs K.sign_gives result keys.old keys.new (λ signings. (tells : Bool) (moments : Items State) (b : Before) (m : Step) → IsReady tells moments self.old → m.state.deeds ≡ [] → KeysFit K.accepts b.keys m.signed keys.old signings → Grows K.accepts keys.old signings → Makes b m act_of.Kept self.old (around (K.accepts keys.old) tells moments out.old) → GoesOn result (λ _. Makes b (repeats_commit node_returns b.keys digest m) act_of.Kept self.new (around (K.accepts keys.new) tells moments out.new) × ((repeats_commit node_returns b.keys digest m).signed ≡ m.signed ++ statements_in signings)) (λ fault. IsStopped b (repeats_commit node_returns b.keys digest m) (m.signed ++ statements_in signings) (K.accepts (keys_after keys.old signings)) tells moments fault)) }
         ensures later { K.faults keys.old ≤ K.faults keys.new }
-        ensures no_limit { IfErr result IsNoLimit }
+        ensures no_disk { IfErr result TouchesNoDisk }
         ensures cause { HasNodeCause (counts 0 (K.faults keys.old)) (counts 0 (K.faults keys.new)) result }
     {
         match self.commit(digest, keys, out)? {
@@ -128,7 +128,7 @@ impl Running {
         ensures ready { (tells : Bool) (moments : Items State) → IsReady tells moments self.old → IsReady tells moments self.new }
         ensures makes { Signs K.sign_gives result keys.old keys.new (λ signings. (tells : Bool) (moments : Items State) (b : Before) (m : Step) → IsReady tells moments self.old → m.state.deeds ≡ [] → KeysFit K.accepts b.keys m.signed keys.old signings → Grows K.accepts keys.old signings → Makes b m act_of.Kept (record self.old { found = None }) (around (K.accepts keys.old) tells moments out.old) → GoesOn result (λ _. Makes b (repeat_round node_returns b.keys (current (place_in m) (view_in m) (as_found self.old.found)) m) act_of.Kept self.new (around (K.accepts keys.new) tells moments out.new) × ((repeat_round node_returns b.keys (current (place_in m) (view_in m) (as_found self.old.found)) m).signed ≡ m.signed ++ statements_in signings)) (λ fault. IsStopped b (repeat_round node_returns b.keys (current (place_in m) (view_in m) (as_found self.old.found)) m) (m.signed ++ statements_in signings) (K.accepts (keys_after keys.old signings)) tells moments fault)) }
         ensures later { K.faults keys.old ≤ K.faults keys.new }
-        ensures no_limit { IfErr result IsNoLimit }
+        ensures no_disk { IfErr result TouchesNoDisk }
         ensures cause { HasNodeCause (counts 0 (K.faults keys.old)) (counts 0 (K.faults keys.new)) result }
     {
         match mem::replace(&mut self.found, None) {

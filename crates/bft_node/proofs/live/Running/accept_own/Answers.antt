@@ -23,10 +23,10 @@ returns-in_err-keep_acceptance-clause-makes g c = λ accepts b m h.
     let r = c.args.self.now in
     let block = c.args.block in
     let within = of_copy (λ (x : Block). acceptance (place_of r) r.view x) c.in_ok-accepted.accepted block r _ _ _ _ c.in_ok-accepted.ensures (c.keep_acceptance.ensures.any_moment accepts) in
-    let needs = subst (λ (x : Block). NeedsLimit (acceptance (place_of r) r.view x) (held_of r.store) c.in_err-keep_acceptance.field-0.0) c.in_ok-accepted.ensures c.in_err-keep_acceptance.ensures.limit in
+    let needs = subst (λ (x : Block). NeedsLimit (g.D.Disk.tells c.args.disk.now) (acceptance (place_of r) r.view x) (held_of r.store) c.in_err-keep_acceptance.field-0.0) c.in_ok-accepted.ensures c.in_err-keep_acceptance.ensures.limit in
     given_up c.from_residual-in_err-keep_acceptance.result _ _ _ c.from_residual-in_err-keep_acceptance.ensures.1
     (λ fault is. accepted_stopped b m block (proposal_first block) (λ p w. refl) r _ _ _ _ c.args.out.now h within c.requires.ready.kept fault
-    (accepted_limit b m block (proposal_first block) (λ p w. refl) r _ _ _ (g.D.Disk.moments c.keep_acceptance.new.disk) c.args.out.now h fault (subst (NeedsLimit (acceptance (place_of r) r.view block) (held_of r.store)) (sym is) needs)))
+    (accepted_limit b m block (proposal_first block) (λ p w. refl) r _ _ _ (g.D.Disk.moments c.keep_acceptance.new.disk) c.args.out.now h fault (subst (NeedsLimit (g.D.Disk.tells c.args.disk.now) (acceptance (place_of r) r.view block) (held_of r.store)) (sym is) needs)))
 
 pub returns-in_err-send_proposal-clause-makes : goal.returns-in_err-send_proposal-clause-makes
 returns-in_err-send_proposal-clause-makes g c = λ accepts b m h.
@@ -34,7 +34,7 @@ returns-in_err-send_proposal-clause-makes g c = λ accepts b m h.
     let block = c.args.block in
     let within = of_copy (λ (x : Block). acceptance (place_of r) r.view x) c.in_ok-accepted.accepted block r _ _ _ _ c.in_ok-accepted.ensures (c.keep_acceptance.ensures.any_moment accepts) in
     given_up c.from_residual-in_err-send_proposal.result _ _ _ c.from_residual-in_err-send_proposal.ensures.1
-    (λ fault is. accepted_stopped b m block (proposal_first block) (λ p w. refl) r _ _ _ _ c.args.out.now h within c.requires.ready.kept fault (unlimited b.held _ fault (no_memory fault is)))
+    (λ fault is. accepted_stopped b m block (proposal_first block) (λ p w. refl) r _ _ _ _ c.args.out.now h within c.requires.ready.kept fault (unlimited _ b.held _ fault (no_memory fault is)))
 
 pub returns-clause-makes : goal.returns-clause-makes
 returns-clause-makes g c = λ accepts b m h.

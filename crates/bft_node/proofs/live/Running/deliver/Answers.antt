@@ -18,7 +18,7 @@ pub returns-in_err-keep_delivery-clause-makes : goal.returns-in_err-keep_deliver
 returns-in_err-keep_delivery-clause-makes g c = λ b m h.
     given_up c.from_residual.result _ _ _ c.from_residual.ensures.1
     (λ fault is. delivered_stopped b m c.args.block c.args.cert c.args.self.now _ _ _ _ c.args.out.now h c.keep_delivery.ensures.any_moment c.requires.kept fault
-    (subst (NeedsLimit (Delivers c.args.self.now.view.me c.args.block c.args.cert) (held_of c.args.self.now.store)) (sym is) c.in_err-keep_delivery.ensures.limit))
+    (subst (NeedsLimit (g.D.Disk.tells c.args.disk.now) (Delivers c.args.self.now.view.me c.args.block c.args.cert) (held_of c.args.self.now.store)) (sym is) c.in_err-keep_delivery.ensures.limit))
 
 pub returns-clause-makes : goal.returns-clause-makes
 returns-clause-makes g c = λ b m h.

@@ -35,4 +35,4 @@ returns-clause-keeps g c =
 
 pub returns-in_err-deliver-clause-limit : goal.returns-in_err-deliver-clause-limit
 returns-in_err-deliver-clause-limit g c =
-    needs_limit c.args.self.now.store (Delivers c.args.self.now.view.me c.args.block c.args.cert) _ _ _ c.in_err-deliver.field-0.0 c.from_residual-in_err-deliver.result refl c.in_err-deliver.ensures.cause c.from_residual-in_err-deliver.ensures.1
+    needs_limit _ _ c.args.self.now.store (Delivers c.args.self.now.view.me c.args.block c.args.cert) _ _ _ c.in_err-deliver.field-0.0 c.from_residual-in_err-deliver.result c.requires.kept refl c.in_err-deliver.ensures.cause c.from_residual-in_err-deliver.ensures.1

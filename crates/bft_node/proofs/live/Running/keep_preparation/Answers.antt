@@ -31,7 +31,7 @@ pub returns-in_err-prepare-clause-limit : goal.returns-in_err-prepare-clause-lim
 returns-in_err-prepare-clause-limit g c =
     let r = c.args.self.now in
     let same = same_preparation r r.view.me c.view-view.result c.place-place.result.now c.args.digest refl c.place-place.ensures c.view-view.ensures in
-    needs_limit r.store (preparation (place_of r) r.view c.args.digest) _ _ _ c.in_err-prepare.field-0.0 c.from_residual.result (ap (write_limit r.store) (sym same)) c.in_err-prepare.ensures.cause c.from_residual.ensures.1
+    needs_limit _ _ r.store (preparation (place_of r) r.view c.args.digest) _ _ _ c.in_err-prepare.field-0.0 c.from_residual.result c.requires.kept (ap (write_limit r.store) (sym same)) c.in_err-prepare.ensures.cause c.from_residual.ensures.1
 
 pub returns-clause-ready : goal.returns-clause-ready
 returns-clause-ready g c =

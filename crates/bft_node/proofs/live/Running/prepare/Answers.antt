@@ -19,7 +19,7 @@ returns-in_err-keep_preparation-clause-makes g c =
       what = λ b m fit grows h.
           given_up c.from_residual.result _ _ _ c.from_residual.ensures.1
           (λ fault is. prepared_stopped g.K.Verifier.accepts b m c.args.digest r c.args.keys.now _ _ _ c.args.out.now h c.requires.kept (c.keep_preparation.ensures.any_moment _) fault
-          (subst (NeedsLimit (preparation (place_of r) r.view c.args.digest) (held_of r.store)) (sym is) c.in_err-keep_preparation.ensures.limit));
+          (subst (NeedsLimit (g.D.Disk.tells c.args.disk.now) (preparation (place_of r) r.view c.args.digest) (held_of r.store)) (sym is) c.in_err-keep_preparation.ensures.limit));
     }
 
 pub returns-clause-makes : goal.returns-clause-makes
@@ -32,7 +32,7 @@ returns-clause-makes g c =
       given = s.given;
       after = s.after;
       what = λ b m fit grows h.
-          goes_on_with c.commit.result _ _ _ _ _ s.what c.commit.ensures.no_limit
+          goes_on_with c.commit.result _ _ _ _ _ s.what c.commit.ensures.no_disk
           (λ told made. (
             tells_more b (makes_prepared node_ways b.keys c.args.digest m) told c.commit.new.self _ _ _ _ c.commit.new.out c.keep_preparation.ensures.tells
                 (prepared_tells g.K.Verifier.accepts b m c.args.digest r c.args.keys.now _ _ _ c.args.out.now h c.requires.kept (c.keep_preparation.ensures.any_moment _)
@@ -40,7 +40,7 @@ returns-clause-makes g c =
             prepared_signed g.K.Verifier.accepts b m c.args.digest r c.args.keys.now _ _ _ c.args.out.now h c.requires.kept (c.keep_preparation.ensures.any_moment _)
                 mid c.keep_preparation.new.out c.in_ok-keep_preparation.ensures.keeps told c.commit.new.self c.commit.new.keys s.signings c.commit.new.out c.in_ok-keep_preparation.ensures.ready.sound.at made fit grows,
           ))
-          (λ fault no_limit most. unsent_stopped g.K.Verifier.accepts b m c.args.digest r c.args.keys.now _ _ _ c.args.out.now h c.requires.kept (c.keep_preparation.ensures.any_moment _)
+          (λ fault no_disk most. unsent_stopped g.K.Verifier.accepts b m c.args.digest r c.args.keys.now _ _ _ c.args.out.now h c.requires.kept (c.keep_preparation.ensures.any_moment _)
           mid c.keep_preparation.new.out c.in_ok-keep_preparation.ensures.keeps
-          (λ t. c.in_ok-keep_preparation.ensures.ready.kept (subst IsTrue (sym c.keep_preparation.ensures.tells) t)) s.signings grows most fault no_limit);
+          (λ t. c.in_ok-keep_preparation.ensures.ready.kept (subst IsTrue (sym c.keep_preparation.ensures.tells) t)) s.signings grows most fault no_disk);
     }

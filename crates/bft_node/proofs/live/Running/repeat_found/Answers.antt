@@ -3,7 +3,7 @@ use Rattle.std.proofs.lemmas.List.{append-nil}
 use Rattle.node_model.specs.declared.act.Act.TheVariants as act_of
 use Rattle.node_model.specs.Restarts.{Found, repeats_commit, repeats_votes}
 use Rattle.bft_node.specs.Making.{Makes, Step, around, node_returns, node_ways}
-use Rattle.bft_node.specs.NodeFaults.{IsNoLimit}
+use Rattle.bft_node.specs.NodeFaults.{TouchesNoDisk}
 use Rattle.bft_node.proofs.MakingLemmas.{given_up}
 use Rattle.bft_node.proofs.RepeatLemmas.{goes_as, none_repeated, none_signed, round_is, round_stopped, votes_repeated}
 use Rattle.bft_node.proofs.SigningLemmas.{signs_nothing, signs_with}
@@ -26,7 +26,7 @@ returns-in_err-repeat_votes-clause-makes g c =
     signs_nothing g.K.Signer.sign_gives _ _ _
     (λ tells moments b m ready none fit grows h.
     given_up c.from_residual.result _ _ _ c.from_residual.ensures.1
-    (λ fault is. round_stopped b m c.args.self.now _ tells moments c.args.out.now h _ ready none fault (subst IsNoLimit (sym is) tt)))
+    (λ fault is. round_stopped b m c.args.self.now _ tells moments c.args.out.now h _ ready none fault (subst TouchesNoDisk (sym is) tt)))
 
 pub returns-then-found-clause-makes : goal.returns-then-found-clause-makes
 returns-then-found-clause-makes g c =

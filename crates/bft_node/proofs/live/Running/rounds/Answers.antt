@@ -2,7 +2,7 @@ use Rattle.std.proofs.Common.{Ok, Err, ap, refl, subst, sym, ◌∙◌}
 use Rattle.node_model.specs.Steps.{rounds}
 use Rattle.node_model.specs.declared.act.Act.TheVariants as act_of
 use Rattle.bft_node.specs.Making.{Step, node_ways}
-use Rattle.bft_node.specs.NodeFaults.{IsNoLimit}
+use Rattle.bft_node.specs.NodeFaults.{TouchesNoDisk}
 use Rattle.bft_node.proofs.MakingLemmas.{given_up, stopped, stopped_by, stopped_fault, stopped_more}
 use Rattle.bft_node.proofs.RoundLemmas.{extends_round, rounds-made, rounds-one, rounds-two}
 use Rattle.bft_node.proofs.SigningLemmas.{fits_first, grows_first, second_accepts, second_fits, second_grows, second_statements, signs_failed, signs_no_more, signs_then}
@@ -23,7 +23,7 @@ returns-in_err-told-clause-makes g c =
     let e = ends b m fit grows t in
     given_up c.from_residual-in_err-told.result _ _ _ c.from_residual-in_err-told.ensures.1
     (λ fault is. stopped_by b (rounds node_ways b.keys 2 m) (rounds node_ways b.keys 2 m) _ _ _ _ _ _ _ fault fault refl (sym e.1) (ap (λ k. g.K.Verifier.accepts k) (sym at)) (sym c.round.ensures.tells) refl
-    (stopped b (rounds node_ways b.keys 1 m) (rounds node_ways b.keys 2 m) act_of.Kept c.round.new.self _ fault (extends_round b.keys m) e.0 c.in_ok-round.ensures.ready.kept (subst IsNoLimit (sym is) tt))))
+    (stopped b (rounds node_ways b.keys 1 m) (rounds node_ways b.keys 2 m) act_of.Kept c.round.new.self _ fault (extends_round b.keys m) e.0 c.in_ok-round.ensures.ready.kept (subst TouchesNoDisk (sym is) tt))))
     c.in_ok-round.ensures.makes
 
 pub round-requires-then-branch-clause-ready : goal.round-requires-then-branch-clause-ready

@@ -24,5 +24,5 @@ returns-clause-step g c = λ runs.
     let begins = begins_so model old first (g.D.Disk.tells c.args.disk.now) before c.new-out.result (fits_now g.K.Verifier.accepts model [] c.args.keys.now xs fit) c.new-out.ensures.facts c.new-out.ensures.sends c.new-out.ensures.done in
     let made = does (before_of model old first before) fit grows begins in
     takes_as model old c.step.new.self _ _ first _ _ _ _ _ before _ (ap g.K.Verifier.accepts at) c.step.ensures.tells
-    (takes_ok model old c.step.new.self _ _ first _ _ before _ c.step.new.out made.0 made.1 c.in_ok-step.ensures.ready.kept))
+    (takes_ok model old c.step.new.self _ _ first _ _ before _ c.step.new.out made.0 made.1 c.in_ok-step.ensures.ready.sound.place c.in_ok-step.ensures.ready.kept))
     c.in_ok-step.ensures.makes
