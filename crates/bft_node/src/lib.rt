@@ -13,6 +13,8 @@ mod lodged;
 mod member;
 mod node;
 mod node_fault;
+#[cfg(test)]
+mod node_tests;
 mod nodes;
 mod open;
 mod own_nodes;
