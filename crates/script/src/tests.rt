@@ -359,7 +359,7 @@ fn lines_not_built(rt: HostRuntime) -> Result<(), Fail> {
     for line in [
         b"byz-change".as_slice(),
         b"byz-report 1",
-        b"stop-at 0 x",
+        b"join x",
         b"genesis",
         b"genesis bft 1",
         b"genesis bft 1 byz=2",
