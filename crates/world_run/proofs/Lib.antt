@@ -1,16 +1,28 @@
-pub mod DeliverLemmas
-pub mod FlushLemmas
-pub mod GenesisLemmas
-pub mod GoingLemmas
-pub mod ListLemmas
-pub mod MakingLemmas
-pub mod RangeLemmas
-pub mod RoundLemmas
-pub mod RunnerLemmas
-pub mod StepLemmas
-pub mod SubmitLemmas
-pub mod TickLemmas
-pub mod ViewLemmas
-pub mod ShowLemmas
-pub mod WaitingLemmas
-pub mod LiarLemmas
+mod CommandLemmas
+mod CrashLemmas
+mod DeedLemmas
+mod DeliverLemmas
+mod EventLemmas
+mod FirstLemmas
+mod FlushLemmas
+mod FollowLemmas
+mod GenesisLemmas
+mod GoingLemmas
+mod LiarLemmas
+mod ListLemmas
+mod MoveLemmas
+mod NodeLemmas
+mod OfferLemmas
+mod PoolLemmas
+mod RangeLemmas
+mod RunnerLemmas
+mod SaysLemmas
+mod SealLemmas
+mod ShowLemmas
+mod StepLemmas
+mod StopLemmas
+mod SubmitLemmas
+mod TellLemmas
+mod TellingLemmas
+mod TickLemmas
+mod WaitingLemmas

@@ -1,172 +1,224 @@
--- Lemmas on an event's step in the code's world.
-use Rattle.std.proofs.Common.{◌≡◌, ℕ, ◌≤◌, false, List, ◌++◌, length, map, get_or, set, Option, Result, IfOk, refl, sym, ap, ◌∙◌, arith}
-use Rattle.std.specs.Prelude.{string_bytes}
+-- Lemmas on a step of a node, and the world after it.
+use Rattle.std.proofs.Common.{◌≡◌, ℕ, Global, Vec, Bool, true, false, List, [], ◌∷◌, ◌++◌, map, Option, Some, None, Result, Ok, Err, refl, sym, ap, ◌∙◌, subst}
 use Rattle.std.specs.List.{flat_map}
-use Rattle.std.proofs.lemmas.Result.{IfOk-weaker}
-use Rattle.node_model.specs.declared.act.Act.TheVariants as act_of
-use Rattle.node_model.specs.Cores.{Core}
-use Rattle.node_model.specs.Acts.{View}
-use Rattle.node_model.specs.Leading.{Place}
-use Rattle.node_model.specs.Steps.{Event, Making}
-use Rattle.ord_types.specs.declared.values.Proof.{Proof}
-use Rattle.safety_model.specs.Blocks.{Block, Config, Request}
-use Rattle.ord_types.specs.declared.lists.NoMemory.{NoMemory}
+use Rattle.std.specs.Prelude.{slice_get, slice_set, string_bytes}
+use Rattle.std.proofs.lemmas.Option.{same_Some}
+use Rattle.safety_model.specs.Blocks.{Config, Request}
+use Rattle.safety_model.specs.declared.fact.Fact.{Fact}
+use Rattle.script_play.specs.Turns.{Turn, Turned}
 use Rattle.script_play.specs.declared.ending.Ending.{Ending}
-use Rattle.script_play.specs.Turns.{Turned}
+use Rattle.signer_edge.specs.Accepts.{Accepts}
+use Rattle.signer_edge.specs.Seals.{Seat, is_sealed}
+use Rattle.signer_edge.specs.Signing.{KeepsAccepted}
+use Rattle.signer_edge.specs.declared.boxes.SealSeat.{SealSeat}
+use Rattle.signer_edge.proofs.SealFacts.{is_sealed-grown}
+use Rattle.signer_edge.specs.declared.seals.Seal.{Seal}
+use Rattle.block_ledger.specs.Chains.{Entry, IsChain}
+use Rattle.node_model.specs.Deeds.{deeds_of, fact_of}
+use Rattle.node_model.specs.Restarts.{Returned, returned_returns, step}
+use Rattle.node_model.specs.Steps as steps
+use Rattle.node_model.specs.Steps.{Making}
+use Rattle.node_model.proofs.DeedLemmas.{deeds_are_facts}
 use Rattle.world_model.specs.Cores.{core_setting}
 use Rattle.world_model.specs.Texts.{fact_text}
-use Rattle.world_model.specs.Turns.{event_turn, within_limit}
+use Rattle.world_model.specs.Turns.{event_goes, event_turn, within_limit}
 use Rattle.world_model.specs.Worlds as worlds
-use Rattle.world_run.specs.Entries.{entry_of}
-use Rattle.world_run.specs.Making.{Before, Makes, Stands}
-use Rattle.world_run.specs.Mapped.{world_of}
-use Rattle.world_run.specs.Nodes.{node_of}
-use Rattle.world_run.specs.declared.node.Node.{Node}
-use Rattle.world_run.specs.declared.node.Outside.{Outside}
+use Rattle.world_model.specs.Worlds.{Outcome, keys_of, requests_in, seals_of, sent_by, stored_in}
+use Rattle.bft_node.specs.Held.{Held, with_deeds}
+use Rattle.bft_node.specs.Lodgings.{Becomes, IsStepOf, Lodging, StepsAt, accepts_of}
+use Rattle.bft_node.specs.Making.{sent_of, text_of}
+use Rattle.bft_node.specs.NodeSteps.{step_from}
+use Rattle.bft_node.specs.Running.{event_of, state_of}
+use Rattle.bft_node.specs.Standing.{Stands, StepsKeepStanding}
+use Rattle.bft_node.specs.Stores.{config_of, held_of}
+use Rattle.bft_node.specs.declared.live.Done.{Done}
+use Rattle.bft_node.specs.declared.live.Event.{Event}
+use Rattle.bft_node.specs.declared.live.Out.{Out}
+use Rattle.bft_node.specs.declared.lodged.Lodged.{Lodged}
+use Rattle.world_run.specs.Entries.{entry_of, posted}
+use Rattle.world_run.specs.Following.{Follows, network_after, world_with}
+use Rattle.world_run.specs.Going.{ByMoves, Plays}
+use Rattle.world_run.specs.Mapped.{Model, world_of}
+use Rattle.world_run.specs.Members.{IsMember, IsSeated, node_of}
+use Rattle.world_run.specs.Moves.{Move, Takes, outcomes_of}
+use Rattle.world_run.specs.Sound.{IsSound, NoneArmed}
+use Rattle.world_run.specs.declared.member.Member.{Member}
+use Rattle.world_run.specs.declared.member.Outside.{Outside}
 use Rattle.world_run.specs.declared.world.World.{World}
-use Rattle.world_run.specs.Waiting.{waits_before}
-use Rattle.world_run.proofs.WaitingLemmas.{ids_placed, waits_longer}
+use Rattle.world_run.proofs.DeedLemmas.{all_done, blocks_stored, logged_step}
 use Rattle.world_run.proofs.GoingLemmas.{Turned-same}
-use Rattle.world_run.proofs.ListLemmas.{HasPlace, id_at_place, length_longer, with_node_at_place}
+use Rattle.world_run.proofs.ListLemmas.{with_node_becomes}
+use Rattle.world_run.proofs.MoveLemmas.{alike_self}
+use Rattle.world_run.proofs.NodeLemmas.{node_there, node_with, seat_of, sound_becomes, unarmed_at, unarmed_set}
+use Rattle.world_run.proofs.SealLemmas.{Signed, seat_after, signed_in}
 
--- what stands before a step of this node in the world
-abbrev pub before_in : World → Node → Before
-before_in w node =
+-- what the step of the model makes
+abbrev pub made_by : List Seal → ℕ → Lodged → Event → Making Returned
+made_by box id l event = step returned_returns (keys_of box id) (state_of l.node.running) (event_of event)
+
+-- A STEP THAT WENT THROUGH made and left what the model's does.
+pub record Stepped (c : Config) (box : List Seal) (id : ℕ) (l new : Lodged) (event : Event) (after : Seat) (out : Out) : Type 0 where
+  pub state : state_of new.node.running ≡ (made_by box id l event).state
+  pub ledger : (held_of new.node.running.store).blocks ≡ (held_of l.node.running.store).blocks ++ flat_map stored_in (made_by box id l event).facts
+  pub facts : out.facts ≡ (made_by box id l event).facts
+  pub sends : map sent_of out.sends ≡ map text_of (made_by box id l event).posts
+  pub done : flat_map (λ (block : Done). block.ids) out.done ≡ map (λ (r : Request). r.id) (flat_map requests_in (made_by box id l event).facts)
+  pub seals : after.seals ≡ box ++ seals_of id (made_by box id l event).signed
+  pub seated : IsSeated c (accepts_of after) id new
+
+pub stepped : (c : Config) (box : List Seal) (id : ℕ) (l new : Lodged) (event : Event) (after : Seat) (out : Out) → StepsKeepStanding → IsSeated c (accepts_of (record { id = id; seals = box })) id l
+    → IsStepOf l new event (record { id = id; seals = box }) after (Ok out) → Stepped c box id l new event after out
+stepped c box id l new event after out standing seated is =
+    let before : Seat = record { id = id; seals = box } in
+    let signed = signed_in l new event before after (Ok out) seated.runs is in
+    let keys = keys_of box id in
+    let r = state_of l.node.running in
+    let e = event_of event in
+    let logged = logged_step keys r e in
+    let done_by_it = signed.takes.steps in
+    let deeds = deeds_of returned_returns keys r e in
+    let facts = done_by_it.facts ∙ ap (λ (m : Making Returned). m.facts) logged in
+    let state = done_by_it.state ∙ ap (λ (m : Making Returned). m.state) logged in
+    let signs = done_by_it.signed_all ∙ ap (λ (m : Making Returned). m.signed) logged in
     record {
-      id = node.id;
-      number = w.outside.number;
-      pool = node.pool.items;
-      ledger = node.ledger.items;
-      network = map entry_of w.outside.network.items;
-      seals = w.outside.seat.seals;
-      text = string_bytes w.outside.text;
+      state = state;
+      ledger = ap (λ (h : Held). h.blocks) done_by_it.held ∙ blocks_stored deeds (held_of l.node.running.store)
+          ∙ ap (λ (fs : List Fact). (held_of l.node.running.store).blocks ++ flat_map stored_in fs) (deeds_are_facts keys r e);
+      facts = facts;
+      sends = done_by_it.sends ∙ ap (λ (m : Making Returned). map text_of m.posts) logged;
+      done = ap (λ (ds : List Done). flat_map (λ (block : Done). block.ids) ds) done_by_it.done ∙ all_done (step_from keys l.node.running e).facts
+          ∙ ap (λ (m : Making Returned). map (λ (r : Request). r.id) (flat_map requests_in m.facts)) logged;
+      seals = ap (λ (s : Seat). s.seals) signed.seat ∙ ap (λ (statements : List (List ℕ)). box ++ seals_of id statements) signs;
+      seated =
+          record {
+            runs = is.closes;
+            named = is.id ∙ seated.named;
+            config = is.config ∙ seated.config;
+            chain = subst (λ (c' : Config). IsChain (accepts_of after) c' (held_of new.node.running.store).blocks) seated.config
+                (signed.takes.chain (subst (λ (c' : Config). IsChain (accepts_of before) c' (held_of l.node.running.store).blocks) (sym seated.config) seated.chain));
+            stands = subst (λ (held : Held). Stands c id held (state_of new.node.running).core) (sym done_by_it.held)
+                (subst (λ (r' : Returned). Stands c id (with_deeds deeds (held_of l.node.running.store)) r'.core) (sym state) (standing c id (held_of l.node.running.store) keys r e seated.stands));
+            kept = is.kept;
+          };
     }
 
--- what is outside the nodes, with the box of seals in the hands of a node
-abbrev pub seated : ℕ → Outside → Outside
-seated id outside = record outside { seat = record { id = id; seals = outside.seat.seals } }
+-- THE WORLD AFTER IT
 
-stands_before : (w : World) (id place : ℕ) (node : Node) (outside : Outside) → HasPlace id w.nodes.items place → node ≡ get_or w.nodes.items place node → outside ≡ seated id w.outside → Stands (before_in w node) node outside
-stands_before w id place node outside at is seat =
-    let same : node.id ≡ id = ap (λ (n : Node). n.id) is ∙ id_at_place id w.nodes.items place node at in
-    record {
-      id = refl;
-      pool = refl;
-      ledger = refl;
-      network = ap (λ (o : Outside). map entry_of o.network.items) seat;
-      seat = ap (λ (o : Outside). o.seat) seat ∙ ap (λ (i : ℕ). record { id = i; seals = w.outside.seat.seals }) (sym same);
-      number = ap (λ (o : Outside). o.number) seat;
-      text = ap (λ (o : Outside). string_bytes o.text) seat;
-    }
+posted_is : (i : ℕ) (posts : List steps.Post) → posted i (map text_of posts) ≡ sent_by i posts
+posted_is i [] = refl
+posted_is i (post ∷ posts) = ap (λ (es : List worlds.Entry). record { from = i; to = post.to; bytes = (text_of post).bytes; came = false } ∷ es) (posted_is i posts)
 
--- a node stands at its place, with the box of seals in its hands
-pub record IsSeated (w s : World) (place : ℕ) (node : Node) : Type 0 where
-  pub read : node ≡ get_or w.nodes.items place node
-  pub stands : Stands (before_in w node) node s.outside
-  pub nodes : s.nodes.items ≡ w.nodes.items
-  pub config : s.config ≡ w.config
-  pub byzantine : s.byzantine ≡ w.byzantine
-  pub first : s.first_waiting ≡ w.first_waiting
+pub same_node : (i j : ℕ) (r s : Returned) (p q : List Request) (k l : List Entry) (a b c d : Bool) → i ≡ j → r ≡ s → p ≡ q → k ≡ l → a ≡ b → c ≡ d
+    → ◌≡◌ {A = worlds.Node Returned} (record { id = i; state = r; pool = p; ledger = k; runs = a; armed = c }) (record { id = j; state = s; pool = q; ledger = l; runs = b; armed = d })
+same_node i j r s p q k l a b c d e f g h m n = rw (e, f, g, h, m, n) refl
 
-pub is_seated : (w s : World) (id place : ℕ) (node : Node) → HasPlace id w.nodes.items place → s ≡ record w { outside = seated id w.outside } → node ≡ get_or s.nodes.items place node → IsSeated w s place node
-is_seated w s id place node at is read =
-    let same = ap (λ (x : World). x.nodes.items) is in
-    let here : node ≡ get_or w.nodes.items place node = read ∙ ap (λ (ns : List Node). get_or ns place node) same in
-    record {
-      read = here;
-      stands = stands_before w id place node s.outside at here (ap (λ (x : World). x.outside) is);
-      nodes = same;
-      config = ap (λ (x : World). x.config) is;
-      byzantine = ap (λ (x : World). x.byzantine) is;
-      first = ap (λ (x : World). x.first_waiting) is;
-    }
+pub same_model : (c d : Config) (b b' : List ℕ) (ns ms : List (worlds.Node Returned)) (es fs : List worlds.Entry) (ss ts : List Seal) (later : List Outcome) → c ≡ d → b ≡ b' → ns ≡ ms → es ≡ fs → ss ≡ ts
+    → ◌≡◌ {A = Model} (record { config = c; byzantine = b; nodes = ns; network = es; seals = ss; told = tt; outcomes = later }) (record { config = d; byzantine = b'; nodes = ms; network = fs; seals = ts; told = tt; outcomes = later })
+same_model c d b b' ns ms es fs ss ts later p q r s t = rw (p, q, r, s, t) refl
 
-same_node : (i j : ℕ) (p q : Place) (v w : View) (xs ys : List Request) (k l : List (Block × Proof)) → i ≡ j → p ≡ q → v ≡ w → xs ≡ ys → k ≡ l
-    → ◌≡◌ {A = worlds.Node Core} (record { id = i; state = record { place = p; view = v }; pool = xs; ledger = k }) (record { id = j; state = record { place = q; view = w }; pool = ys; ledger = l })
-same_node i j p q v w xs ys k l a b c d e = cc
+-- what stands between a step and what is done after it: the seat signed
+pub record Between (old mid : World) (after : Seat) : Type 0 where
+  pub config : mid.config ≡ old.config
+  pub byzantine : mid.byzantine ≡ old.byzantine
+  pub members : mid.members ≡ old.members
+  pub outside : mid.outside ≡ record old.outside { seat = after }
 
--- a world with these nodes and what is outside them
-abbrev pub world_with : World → List Node → Outside → worlds.World Core (Unit {0})
-world_with w nodes outside =
-    record {
-      config = w.config;
-      byzantine = w.byzantine;
-      nodes = map node_of nodes;
-      network = map entry_of outside.network.items;
-      seals = outside.seat.seals;
-      told = tt;
-    }
+module _ (at next : Lodging) (old mid new : World) (place : ℕ) (member : Member) (l node : Lodged) (event : Event) (after : Seat) (out : Out) (ending : Option Ending) (sound : IsSound at old)
+    (has : slice_get old.members.items place ≡ Some member) (runs : member.runs ≡ true) (there : at member.id ≡ Some l) (becomes : Becomes at next member.id (Some node))
+    (did : Stepped old.config old.outside.seat.seals member.id l node event after out) (between : Between old mid after) (follows : Follows mid new place member out ending) where
+  abbrev m : Making Returned
+  m = made_by old.outside.seat.seals member.id l event
 
--- the world after a step
-pub world_stepped : (w : World) (id place : ℕ) (old new : Node) (outside : Outside) (m : Making Core) → HasPlace id w.nodes.items place → old ≡ get_or w.nodes.items place old
-    → Makes (before_in w old) m act_of.Kept new outside
-    → worlds.world_after core_setting (world_of w) (node_of old) m ≡ world_with w (set w.nodes.items place new) outside
-world_stepped w id place old new outside m at is makes =
-    let same : old.id ≡ id = ap (λ (n : Node). n.id) is ∙ id_at_place id w.nodes.items place old at in
-    let nodes = with_node_at_place id w.nodes.items place old new at (makes.id ∙ same) in
-    let node : worlds.node_after (node_of old) m ≡ node_of new = same_node _ _ _ _ _ _ _ _ _ _ (sym makes.id) (sym makes.place) (sym makes.view) (sym makes.pool) (sym makes.ledger) in
-    rw (← nodes, makes.network, makes.seat)
-    (ap (λ (n : worlds.Node Core). record {
-      config = w.config;
-      byzantine = w.byzantine;
-      nodes = worlds.with_node n (map node_of w.nodes.items);
-      network = map entry_of w.outside.network.items ++ worlds.sent_by old.id m.posts;
-      seals = w.outside.seat.seals ++ worlds.seals_of old.id m.signed;
-      told = tt;
-    }) node)
+  node_is : worlds.node_after (node_with member l) m ≡ node_of old.config next follows.moved
+  node_is =
+      same_node _ _ _ _ _ _ _ _ _ _ _ _ (sym follows.id) (sym did.state) (sym (follows.pool (flat_map requests_in m.facts) did.done)) (sym did.ledger) (sym (follows.runs ∙ runs)) (sym follows.armed)
+      ∙ sym (node_there old.config next follows.moved node (ap next follows.id ∙ becomes.there))
 
-same_three : {A B C X : Type 0} (f : A → B → C → X) (a a' : A) (b b' : B) (c c' : C) → a ≡ a' → b ≡ b' → c ≡ c' → f a b c ≡ f a' b' c'
-same_three f a a' b b' c c' p q r = rw (p, q, r) refl
+  nodes_are : worlds.with_node (worlds.node_after (node_with member l) m) (map (node_of old.config at) old.members.items) ≡ map (node_of mid.config next) (slice_set mid.members.items place follows.moved)
+  nodes_are =
+      ap (λ (n : worlds.Node Returned). worlds.with_node n (map (node_of old.config at) old.members.items)) node_is
+      ∙ with_node_becomes old.config at next old.members.items place member follows.moved (Some node) sound.ids has follows.id (subst (λ (i : ℕ). Becomes at next i (Some node)) (sym follows.id) becomes)
+      ∙ ap (λ (c : Config). map (node_of c next) (slice_set old.members.items place follows.moved)) (sym between.config)
+      ∙ ap (λ (v : Vec Member Global). map (node_of mid.config next) (slice_set v.items place follows.moved)) (sym between.members)
 
-event_limited : (w s : World) (id place : ℕ) (old new : Node) (outside : Outside) (event : Event)
-    → HasPlace id w.nodes.items place → IsSeated w s place old
-    → Makes (before_in w old) (worlds.making core_setting (world_of w) (node_of old) event) act_of.Kept new outside
-    → within_limit {S = Core} {T = Unit {0}} outside.number (flat_map (fact_text w.outside.number) (worlds.making core_setting (world_of w) (node_of old) event).facts) (world_with s (set s.nodes.items place new) outside)
-    ≡ within_limit w.outside.number (flat_map (fact_text w.outside.number) (worlds.making core_setting (world_of w) (node_of old) event).facts)
-    (worlds.world_after core_setting (world_of w) (node_of old) (worlds.making core_setting (world_of w) (node_of old) event))
-event_limited w s id place old new outside event at sits makes =
-    let m = worlds.making core_setting (world_of w) (node_of old) event in
-    let facts = flat_map (fact_text w.outside.number) m.facts in
-    let with = λ (config : Config) (byzantine : List ℕ) (nodes : List Node). within_limit {S = Core} {T = Unit {0}} outside.number facts
-    (record {
-      config = config;
-      byzantine = byzantine;
-      nodes = map node_of (set nodes place new);
-      network = map entry_of outside.network.items;
-      seals = outside.seat.seals;
-      told = tt;
-    }) in
-    same_three with s.config w.config s.byzantine w.byzantine s.nodes.items w.nodes.items sits.config sits.byzantine sits.nodes
-    ∙ ap (λ (n : ℕ). within_limit {S = Core} {T = Unit {0}} n facts (world_with w (set w.nodes.items place new) outside)) makes.number
-    ∙ ap (λ (x : worlds.World Core (Unit {0})). within_limit {S = Core} {T = Unit {0}} w.outside.number facts x) (sym (world_stepped w id place old new outside m at sits.read makes))
+  network_is : map entry_of old.outside.network.items ++ sent_by member.id m.posts ≡ network_after mid member.id out
+  network_is =
+      ap (λ (es : List worlds.Entry). map entry_of old.outside.network.items ++ es) (sym (posted_is member.id m.posts) ∙ ap (posted member.id) (sym did.sends))
+      ∙ ap (λ (o : Outside). map entry_of o.network.items ++ posted member.id (map sent_of out.sends)) (sym between.outside)
 
--- the turn of an event, from what its step made
-pub event_turned : (w s : World) (id place : ℕ) (old new : Node) (outside : Outside) (event : Event) (result : Result (Option Ending) NoMemory) (after : List ℕ) (next : worlds.World Core (Unit {0}))
-    → HasPlace id w.nodes.items place → IsSeated w s place old
-    → Makes (before_in w old) (worlds.making core_setting (world_of w) (node_of old) event) act_of.Kept new outside
-    → IfOk result (λ ending. (before blocks : List ℕ) → string_bytes outside.text ≡ before ++ blocks
-    → Turned (within_limit outside.number blocks (world_with s (set s.nodes.items place new) outside)) before after next ending)
-    → IfOk result (λ ending. Turned (event_turn core_setting w.outside.number (world_of w) (node_of old) event) (string_bytes w.outside.text) after next ending)
+  seals_are : old.outside.seat.seals ++ seals_of member.id m.signed ≡ mid.outside.seat.seals
+  seals_are = sym did.seals ∙ ap (λ (o : Outside). o.seat.seals) (sym between.outside)
+
+  world_is : (later : List Outcome) → worlds.world_after core_setting (world_of at old later) (node_with member l) m
+      ≡ world_with next mid (slice_set mid.members.items place follows.moved) (network_after mid member.id out) later
+  world_is later = same_model _ _ _ _ _ _ _ _ _ _ later (sym between.config) (sym between.byzantine) nodes_are network_is seals_are
+
+  -- an event that goes on
+  goes : (later : List Outcome) → Turned (event_goes core_setting old.outside.number (world_of at old later) (node_with member l) (event_of event)) (string_bytes old.outside.text) (string_bytes new.outside.text) (world_of next new later) ending
+  goes later =
+      let number : mid.outside.number ≡ old.outside.number = ap (λ (o : Outside). o.number) between.outside in
+      let text : string_bytes mid.outside.text ≡ string_bytes old.outside.text = ap (λ (o : Outside). string_bytes o.text) between.outside in
+      let w = world_with next mid (slice_set mid.members.items place follows.moved) (network_after mid member.id out) later in
+      subst (λ (before : List ℕ). Turned (event_goes core_setting old.outside.number (world_of at old later) (node_with member l) (event_of event)) before (string_bytes new.outside.text) (world_of next new later) ending) text
+      (Turned-same _ _ (string_bytes mid.outside.text) (string_bytes new.outside.text) (world_of next new later) ending
+      (ap (λ (n : ℕ). within_limit n (flat_map (fact_text n) out.facts) w) number
+      ∙ ap (λ (fs : List Fact). within_limit old.outside.number (flat_map (fact_text old.outside.number) fs) w) did.facts
+      ∙ ap (λ (x : Model). within_limit old.outside.number (flat_map (fact_text old.outside.number) m.facts) x) (sym (world_is later)))
+      (follows.turned next later))
+
+  keeps_all : KeepsAccepted (accepts_of old.outside.seat) (accepts_of new.outside.seat)
+  keeps_all = λ t sig h.
+      let seals : new.outside.seat.seals ≡ old.outside.seat.seals ++ seals_of member.id m.signed = ap (λ (s : SealSeat). s.seals) follows.seat ∙ sym seals_are in
+      subst (λ (box : List Seal). is_sealed box t sig ≡ true) (sym seals) (is_sealed-grown old.outside.seat.seals (seals_of member.id m.signed) t sig h)
+
+  config_is : new.config ≡ old.config
+  config_is = follows.config ∙ between.config
+
+  members_are : new.members.items ≡ slice_set old.members.items place follows.moved
+  members_are = follows.members ∙ ap (λ (v : Vec Member Global). slice_set v.items place follows.moved) between.members
+
+  seat_is : new.outside.seat ≡ after
+  seat_is = follows.seat ∙ ap (λ (o : Outside). o.seat) between.outside
+
+  pub sound_after : IsSound next new
+  sound_after =
+      sound_becomes at next old new place member follows.moved node sound has follows.id becomes
+      (subst (λ (s : Seat). IsSeated old.config (accepts_of s) member.id node) (sym seat_is) did.seated) keeps_all config_is members_are
+
+  pub number_after : new.outside.number ≡ old.outside.number
+  number_after = follows.number ∙ ap (λ (o : Outside). o.number) between.outside
+
+-- with the outcome, where the node is armed
+turn_taken : (b : Bool) (number : ℕ) (at : Lodging) (old : World) (later : List Outcome) (node : worlds.Node Returned) (e : steps.Event) (id : ℕ) (event : Event) (seat after : Seat) (out : Out) → node.armed ≡ b
+    → event_goes core_setting number (world_of at old later) node e ≡ event_turn core_setting number (world_of at old (outcomes_of (Takes id event b seat after out ∷ []) ++ later)) node e
 unfolding event_turn
-event_turned w s id place old new outside event result after next at sits makes limited =
-    let m = worlds.making core_setting (world_of w) (node_of old) event in
-    let facts = flat_map (fact_text w.outside.number) m.facts in
-    IfOk-weaker result
-    (λ (ending : Option Ending). (before blocks : List ℕ) → string_bytes outside.text ≡ before ++ blocks → Turned (within_limit outside.number blocks (world_with s (set s.nodes.items place new) outside)) before after next ending)
-    (λ (ending : Option Ending). Turned (within_limit w.outside.number facts (worlds.world_after core_setting (world_of w) (node_of old) m)) (string_bytes w.outside.text) after next ending)
-    (λ ending turned. Turned-same _ _ _ _ _ _ (event_limited w s id place old new outside event at sits makes) (turned _ _ makes.text))
-    limited
+turn_taken true number at old later node e id event seat after out armed = rw armed refl
+turn_taken false number at old later node e id event seat after out armed = rw armed refl
 
--- the entries before the first that may wait don't wait
-pub passed_on : (w s : World) (id place : ℕ) (old new : Node) (outside : Outside) (m : Making Core) → HasPlace id w.nodes.items place → IsSeated w s place old → Makes (before_in w old) m act_of.Kept new outside
-    → waits_before w.first_waiting (set s.nodes.items place new) outside.network.items ≡ false
-passed_on w s id place old new outside m at sits makes =
-    let same : old.id ≡ id = ap (λ (n : Node). n.id) sits.read ∙ id_at_place id w.nodes.items place old at in
-    rw sits.nodes
-    (waits_longer w.first_waiting w.nodes.items (set w.nodes.items place new) w.outside.network.items outside.network.items _ w.within makes.network
-    (ids_placed id w.nodes.items place old new at (makes.id ∙ same)) w.passed)
+quiet_taken : (b : Bool) (id : ℕ) (event : Event) (seat after : Seat) (out : Out) → b ≡ false → outcomes_of (Takes id event b seat after out ∷ []) ≡ []
+quiet_taken true id event seat after out is = absurd (cc)
+quiet_taken false id event seat after out is = refl
 
-pub within_on : (w : World) (old new : Node) (outside : Outside) (m : Making Core) → Makes (before_in w old) m act_of.Kept new outside → w.first_waiting ≤ length outside.network.items
-within_on w old new outside m makes = let longer = length_longer w.outside.network.items outside.network.items _ makes.network in
-    let within : w.first_waiting ≤ length w.outside.network.items = w.within in
-    omega arith
+-- AN EVENT THAT WENT THROUGH
+pub event_taken : (at next : Lodging) (old mid new : World) (place : ℕ) (member : Member) (l node : Lodged) (event : Event) (after : Seat) (out : Out) (ending : Option Ending) → IsSound at old
+    → slice_get old.members.items place ≡ Some member → member.runs ≡ true → at member.id ≡ Some l → Becomes at next member.id (Some node)
+    → IsStepOf l node event (seat_of old member.id) after (Ok out)
+    → Stepped old.config old.outside.seat.seals member.id l node event after out → Between old mid after → Follows mid new place member out ending
+    → Plays at next old new (λ w. event_turn core_setting old.outside.number w (node_of old.config at member) (event_of event)) ending
+event_taken at next old mid new place member l node event after out ending sound has runs there becomes is did between follows =
+    let seat = seat_of old member.id in
+    let move = Takes member.id event member.armed seat after out in
+    record {
+      moves = move ∷ [];
+      made = (next, (λ l' there'. (node, subst (λ (x : Lodged). IsStepOf x node event seat after (Ok out)) (same_Some l l' (sym there ∙ there')) is, becomes)), alike_self next);
+      config = config_is at next old mid new place member l node event after out ending sound has runs there becomes did between follows;
+      so = λ later.
+          Turned-same _ _ (string_bytes old.outside.text) (string_bytes new.outside.text) (world_of next new later) ending
+          (turn_taken member.armed old.outside.number at old later (node_with member l) (event_of event) member.id event seat after out refl
+          ∙ ap (λ (n : worlds.Node Returned). event_turn core_setting old.outside.number (world_of at old (outcomes_of (move ∷ []) ++ later)) n (event_of event)) (sym (node_there old.config at member l there)))
+          (goes at next old mid new place member l node event after out ending sound has runs there becomes did between follows later);
+      decided = λ quiet none.
+          let unarmed = unarmed_at old place member none has in
+          (quiet_taken member.armed member.id event seat after out unarmed,
+           unarmed_set old new place follows.moved none (follows.armed ∙ unarmed) (members_are at next old mid new place member l node event after out ending sound has runs there becomes did between follows));
+    }

@@ -17,10 +17,11 @@ pub record Goes {W : Type 0} (whole : Turn W) (before now : List ℕ) (rest : Tu
   pub next : whole.next ≡ rest.next
 
 -- Some moves were made, and whatever outcomes are still to come, this holds of the world with those of the moves before them and of the
--- world after them. What arms no disk leaves a world so in which none is armed, and takes no outcome.
+-- world after them. The configuration stays. What arms no disk leaves a world so in which none is armed, and takes no outcome.
 pub record ByMoves (Quiet : Type 0) (at next : Lodging) (old new : World) (P : Model → Model → Type 0) : Type 0 where
   pub moves : List Move
   pub made : AreMoves old.config at next moves
+  pub config : new.config ≡ old.config
   pub so : (later : List Outcome) → P (world_of at old (outcomes_of moves ++ later)) (world_of next new later)
   pub decided : Quiet → NoneArmed old → (outcomes_of moves ≡ []) × NoneArmed new
 

@@ -1,5 +1,7 @@
 pub mod Answers
+pub mod Beginning
 pub mod Entries
+pub mod Following
 pub mod Going
 pub mod Lines
 pub mod Longest

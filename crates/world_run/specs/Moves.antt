@@ -1,5 +1,5 @@
 -- What a line does with the nodes and their disks, and which outcomes of events come of it.
-use Rattle.std.specs.Prelude.{◌≡◌, ℕ, ◌+◌, ◌<◌, Bool, true, false, List, [], ◌∷◌, ◌++◌, length, take, Option, Some, None, Ok, Err}
+use Rattle.std.specs.Prelude.{◌≡◌, ℕ, ◌+◌, ◌<◌, Bool, true, false, List, [], ◌∷◌, length, Some, Ok, Err}
 use Rattle.std.specs.List.{flat_map}
 use Rattle.safety_model.specs.Blocks.{Config}
 use Rattle.gate_log.specs.Arms.{image_in_force, is_reached}

@@ -1,5 +1,5 @@
 -- Which entries of the code's network wait for their receiver.
-use Rattle.std.specs.Prelude.{ℕ, Bool, List, Option, Some, None, map, take}
+use Rattle.std.specs.Prelude.{ℕ, Bool, List, None, map, take}
 use Rattle.std.specs.List.{list_any}
 use Rattle.safety_model.specs.Blocks.{Config}
 use Rattle.world_model.specs.Worlds as worlds

@@ -1,5 +1,5 @@
 //! Ticks, and deliveries of what was sent.
-ghost use Rattle.std.specs.Prelude.{◌≡◌, ◌<◌, ◌+◌, ◌-◌, ◌^◌, All, IfNone, IfOk, IfSome, List as Items, OnOk, Some, None, is_some, slice_get, string_bytes, true, vec_len};
+ghost use Rattle.std.specs.Prelude.{◌≡◌, ◌<◌, ◌+◌, ◌-◌, ◌^◌, All, IfNone, IfOk, IfSome, List as Items, OnOk, Some, None, slice_get, string_bytes, vec_len};
 ghost use Rattle.script.specs.Commands.{IsRange};
 ghost use Rattle.script_play.specs.Turns.{EndsTurn};
 ghost use Rattle.world_model.specs.Cores.{core_setting};
@@ -54,7 +54,6 @@ impl World {
         count: u32,
     ) -> Result<Option<Ending>, NoMemory>
         requires sound { IsSound (N.at nodes.old) self.old }
-        requires runs { (later : Items Outcome) → is_some (worlds.running_at id (world_of (N.at nodes.old) self.old later).nodes) ≡ true }
         ensures sound { OnOk result (IsSound (N.at nodes.new) self.new) }
         ensures ends { IfOk result (λ ending. IfSome ending EndsTurn) }
         ensures plays { IfOk result (λ ending. Plays (N.at nodes.old) (N.at nodes.new) self.old self.new (ticks core_setting self.old.outside.number id count) ending) }
@@ -137,10 +136,11 @@ impl World {
         if let Some(ending) = self.deliver_entry(nodes, at)? {
             return Ok(Delivered::Ended(ending));
         }
-        if !self.is_running(to) {
-            return Ok(Delivered::Halted);
+        if self.is_running(to) {
+            Ok(Delivered::All(count))
+        } else {
+            Ok(Delivered::Halted)
         }
-        Ok(Delivered::All(count))
     }
 
     /// Delivers the entries with these numbers, after so many others. A number that isn't in the network

@@ -1,5 +1,7 @@
 //! The events of nodes, and their stops.
-ghost use Rattle.std.specs.Prelude.{◌≡◌, ◌++◌, Bool, IfOk, IfSome, List as Items, OnOk, Some, None, map, slice_get, string_bytes, true, false};
+ghost use Rattle.std.specs.Prelude.{◌≡◌, ◌==◌, ◌++◌, Bool, IfOk, IfSome, List as Items, OnOk, Some, None, is_some, map, position, slice_get, string_bytes, true, false};
+ghost use Rattle.ord_types.specs.Genesis.{IsGenesisConfig};
+ghost use Rattle.gate_log.specs.Arms.{is_reached};
 ghost use Rattle.gate_log.specs.declared.image.Image.{Image as SomeImage};
 ghost use Rattle.gate_log.specs.declared.memory.MemDisk.{MemDisk as SomeDisk};
 ghost use Rattle.script_play.specs.Turns.{EndsTurn, Turned};
@@ -21,7 +23,7 @@ use crate::network::add_sends;
 use crate::pool::{offer, settle};
 use crate::texts::{put_facts, put_start, put_stop_at, put_stopped};
 use crate::world::World;
-use bft_node::{Event, NodeFault, Nodes, Out};
+use bft_node::{Event, NodeFault, Nodes, Out, deeds_are_found, stored_deeds_stand};
 use gate_log::{Image, MemDisk};
 use ord_types::{Bytes, List, NoMemory, Request};
 use script_play::Ending;
@@ -38,6 +40,7 @@ pub(crate) fn image_of(image: script::Image) -> Image
 }
 
 impl World {
+    ghost use Rattle.world_run.specs.Following.{Crashes, Follows, TakesEvent};
     ghost use Rattle.world_run.specs.Going.{Plays};
     ghost use Rattle.world_run.specs.Mapped.{world_of};
     ghost use Rattle.world_run.specs.Moves.{IsArmedAt};
@@ -59,7 +62,11 @@ impl World {
 
     /// What a step of the node at this place did: its blocks are printed, their requests leave the pool, and its
     /// messages are sent.
-    fn follow(&mut self, place: usize, out: Out) -> Result<Option<Ending>, NoMemory> {
+    fn follow(&mut self, place: usize, out: Out) -> Result<Option<Ending>, NoMemory>
+        requires { (member : SomeMember) × (slice_get self.old.members.items place ≡ Some member) }
+        ensures ends { IfOk result (λ ending. IfSome ending EndsTurn) }
+        ensures follows { IfOk result (λ ending. (member : SomeMember) → slice_get self.old.members.items place ≡ Some member → Follows self.old self.new place member out ending) }
+    {
         let outside = &mut self.outside;
         let member = &mut self.members[place];
         put_facts(&mut outside.text, outside.number, out.facts.as_slice())?;
@@ -76,7 +83,12 @@ impl World {
         place: usize,
         disk: MemDisk,
         image: Image,
-    ) -> Result<(), NoMemory> {
+    ) -> Result<(), NoMemory>
+        requires genesis { IsGenesisConfig self.old.config }
+        requires there { (member : SomeMember) × (slice_get self.old.members.items place ≡ Some member) }
+        requires gone { (member : SomeMember) → slice_get self.old.members.items place ≡ Some member → N.at nodes.old member.id ≡ None }
+        ensures { OnOk result ((member : SomeMember) → slice_get self.old.members.items place ≡ Some member → Crashes (N.at nodes.old) (N.at nodes.new) self.old self.new place member disk image) }
+    {
         let id = self.members[place].id;
         let disk = disk.crash(image)?;
         self.open(nodes, id, disk)?;
@@ -90,7 +102,13 @@ impl World {
 
     /// The disk of the node at this place failed in a step. A disk in memory fails where it was armed and stops, and for
     /// want of memory.
-    fn fail<N: Nodes>(&mut self, nodes: &mut N, place: usize) -> Result<(), NoMemory> {
+    fn fail<N: Nodes>(&mut self, nodes: &mut N, place: usize) -> Result<(), NoMemory>
+        requires genesis { IsGenesisConfig self.old.config }
+        requires there { (member : SomeMember) × (slice_get self.old.members.items place ≡ Some member) × (is_some (N.at nodes.old member.id) ≡ true) }
+        ensures armed { OnOk result ((member : SomeMember) → slice_get self.old.members.items place ≡ Some member → member.armed ≡ true) }
+        ensures crashes { OnOk result ((member : SomeMember) (failed : Lodged) → slice_get self.old.members.items place ≡ Some member → N.at nodes.old member.id ≡ Some failed →
+            (is_reached failed.disk.arm ≡ true) × Crashes (N.at nodes.old) (N.at nodes.new) self.old self.new place member failed.disk SomeImage.Keep) }
+    {
         let id = self.members[place].id;
         let disk = nodes.stop(id);
         if !(self.members[place].armed && disk.stopped()) {
@@ -109,12 +127,10 @@ impl World {
     ) -> Result<Option<Ending>, NoMemory>
         requires sound { IsSound (N.at nodes.old) self.old }
         requires runs { (member : SomeMember) × (slice_get self.old.members.items place ≡ Some member) × (member.runs ≡ true) }
-        ensures sound { OnOk result (IsSound (N.at nodes.new) self.new) }
         ensures ends { IfOk result (λ ending. IfSome ending EndsTurn) }
-        ensures plays { IfOk result (λ ending. (member : SomeMember) → slice_get self.old.members.items place ≡ Some member →
-            Plays (N.at nodes.old) (N.at nodes.new) self.old self.new (λ w. event_turn core_setting self.old.outside.number w (node_of self.old.config (N.at nodes.old) member) (event_of event)) ending) }
-        ensures number { OnOk result (self.new.outside.number ≡ self.old.outside.number) }
+        ensures takes { IfOk result (λ ending. (member : SomeMember) → slice_get self.old.members.items place ≡ Some member → TakesEvent (N.at nodes.old) (N.at nodes.new) self.old self.new member event ending) }
     {
+        deeds_are_found();
         let id = self.members[place].id;
         self.give_seat(id)?;
         match nodes.step(id, event, &mut self.outside.seat) {
@@ -178,6 +194,8 @@ impl World {
             Plays (N.at nodes.old) (N.at nodes.new) self.old self.new (λ w. stop_turn core_setting self.old.outside.number w (node_of self.old.config (N.at nodes.old) member)) None) }
         ensures number { OnOk result (self.new.outside.number ≡ self.old.outside.number) }
     {
+        deeds_are_found();
+        stored_deeds_stand();
         let disk = nodes.stop(self.members[place].id);
         self.crash(nodes, place, disk, image)
     }
@@ -209,6 +227,7 @@ impl World {
     /// Starts the node at this place. Its entries wait again.
     pub(crate) fn start(&mut self, place: usize) -> Result<(), NoMemory>
         requires there { (member : SomeMember) × (slice_get self.old.members.items place ≡ Some member) }
+        requires first { (member : SomeMember) → slice_get self.old.members.items place ≡ Some member → position (λ other. other.id == member.id) self.old.members.items ≡ Some place }
         ensures keeps { OnOk result (KeepsNodes self.old self.new) }
         ensures says { OnOk result ((member : SomeMember) → slice_get self.old.members.items place ≡ Some member → (at : Lodging) (later : Items Outcome) →
             Turned (start_turn self.old.outside.number (world_of at self.old later) (node_of self.old.config at member)) (string_bytes self.old.outside.text) (string_bytes self.new.outside.text) (world_of at self.new later) None) }

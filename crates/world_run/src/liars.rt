@@ -1,5 +1,5 @@
 //! What Byzantine members send and sign.
-ghost use Rattle.std.specs.Prelude.{◌≡◌, ◌<◌, IfOk, IfSome, List as Items, OnOk, Some, codes, length, option_and_then, slice_get, string_bytes, vec_len};
+ghost use Rattle.std.specs.Prelude.{◌≡◌, ◌<◌, IfOk, IfSome, List as Items, OnOk, Some, codes, length, map, option_and_then, slice_get, string_bytes, vec_len};
 ghost use Rattle.std.specs.Option.{option_map};
 ghost use Rattle.ord_types.specs.Lengths.{FitsRequest, FitsSig};
 ghost use Rattle.bft_wire.specs.Lengths.{FitsMessage};
@@ -30,6 +30,7 @@ ghost use Rattle.std.specs.List.{AllByRecursion};
 ghost use Rattle.view_core.specs.Places.{IsPlace};
 ghost use Rattle.bft_node.specs.Lodgings.{Lodging};
 ghost use Rattle.safety_model.specs.Blocks.{Config as SomeConfig};
+ghost use Rattle.world_run.specs.Entries.{entry_of};
 ghost use Rattle.world_run.specs.Longest.{IsLongest, IsMemberAt};
 ghost use Rattle.world_run.specs.Lying.{bar_between, bar_text, commit_of, prepare_of, statement_of, subject_of};
 
@@ -158,6 +159,7 @@ fn proposal_on(
 }
 
 impl World {
+    ghost use Rattle.world_run.specs.Going.{Says};
     ghost use Rattle.world_run.specs.Mapped.{world_of};
     ghost use Rattle.world_run.specs.Sound.{IsSound, KeepsNodes};
 
@@ -178,7 +180,7 @@ impl World {
     /// Refuses a line by an id that may not send or sign.
     pub(crate) fn refuse_barred(&mut self, bar: Bar) -> Result<Option<Ending>, NoMemory>
         ensures ends { IfOk result (λ ending. IfSome ending EndsTurn) }
-        ensures turned { IfOk result (λ ending. (lodged : Lodging) (later : Items Outcome) → Turned (refuses self.old.outside.number (bar_text bar) (world_of lodged self.old later)) (string_bytes self.old.outside.text) (string_bytes self.new.outside.text) (world_of lodged self.new later) ending) }
+        ensures says { IfOk result (Says self.old self.new (refuses self.old.outside.number (bar_text bar))) }
         ensures keeps { OnOk result (KeepsNodes self.old self.new) }
     {
         match bar {
@@ -212,7 +214,7 @@ impl World {
         bytes: Bytes,
     ) -> Result<Option<Ending>, NoMemory>
         ensures ends { IfOk result (λ ending. IfSome ending EndsTurn) }
-        ensures turned { IfOk result (λ ending. (lodged : Lodging) (later : Items Outcome) → Turned (sends self.old.outside.number word.now (world_of lodged self.old later) from to bytes) (string_bytes self.old.outside.text) (string_bytes self.new.outside.text) (world_of lodged self.new later) ending) }
+        ensures says { IfOk result (Says self.old self.new (λ w. sends self.old.outside.number word.now w from to bytes)) }
         ensures keeps { OnOk result (KeepsNodes self.old self.new) }
     {
         self.post(from, to, bytes)?;
@@ -286,7 +288,7 @@ impl World {
         subject: Subject,
     ) -> Result<Option<Ending>, NoMemory>
         ensures ends { IfOk result (λ ending. IfSome ending EndsTurn) }
-        ensures turned { IfOk result (λ ending. (lodged : Lodging) (later : Items Outcome) → Turned (sends self.old.outside.number (codes "byz-vote") (world_of lodged self.old later) from to (message_text (prepare_of subject view))) (string_bytes self.old.outside.text) (string_bytes self.new.outside.text) (world_of lodged self.new later) ending) }
+        ensures says { IfOk result (Says self.old self.new (λ w. sends self.old.outside.number (codes "byz-vote") w from to (message_text (prepare_of subject view)))) }
         ensures keeps { OnOk result (KeepsNodes self.old self.new) }
     {
         let digest = subject.digest;
@@ -309,7 +311,7 @@ impl World {
         subject: Subject,
     ) -> Result<Option<Ending>, NoMemory>
         ensures ends { IfOk result (λ ending. IfSome ending EndsTurn) }
-        ensures turned { IfOk result (λ ending. (lodged : Lodging) (later : Items Outcome) → Turned (sends self.old.outside.number (codes "byz-vote") (with_signed (world_of lodged self.old later) from (statement_of subject view)) from to (message_text (commit_of subject view (sig_at from (length (world_of lodged self.old later).seals))))) (string_bytes self.old.outside.text) (string_bytes self.new.outside.text) (world_of lodged self.new later) ending) }
+        ensures says { IfOk result (Says self.old self.new (λ w. sends self.old.outside.number (codes "byz-vote") (with_signed w from (statement_of subject view)) from to (message_text (commit_of subject view (sig_at from (length w.seals)))))) }
         ensures keeps { OnOk result (KeepsNodes self.old self.new) }
     {
         let digest = subject.digest;
@@ -337,7 +339,7 @@ impl World {
     ) -> Result<Option<Ending>, NoMemory>
         requires { at < vec_len self.old.outside.network }
         ensures ends { IfOk result (λ ending. IfSome ending EndsTurn) }
-        ensures turned { IfOk result (λ ending. (lodged : Lodging) (later : Items Outcome) (entry : worlds.Entry) → slice_get (world_of lodged self.old later).network at ≡ Some entry → Turned (vote_if self.old.outside.number (world_of lodged self.old later) from to kind view (proposed_in entry.bytes)) (string_bytes self.old.outside.text) (string_bytes self.new.outside.text) (world_of lodged self.new later) ending) }
+        ensures says { IfOk result (λ ending. (entry : worlds.Entry) → slice_get (map entry_of self.old.outside.network.items) at ≡ Some entry → Says self.old self.new (λ w. vote_if self.old.outside.number w from to kind view (proposed_in entry.bytes)) ending) }
         ensures keeps { OnOk result (KeepsNodes self.old self.new) }
     {
         let bytes = self.outside.network[at].bytes.as_ref().as_slice();
@@ -360,7 +362,7 @@ impl World {
         entry: u64,
     ) -> Result<Option<Ending>, NoMemory>
         ensures ends { IfOk result (λ ending. IfSome ending EndsTurn) }
-        ensures turned { IfOk result (λ ending. (lodged : Lodging) (later : Items Outcome) → Turned (vote_turn self.old.outside.number (world_of lodged self.old later) from to kind view (worlds.entry entry (world_of lodged self.old later))) (string_bytes self.old.outside.text) (string_bytes self.new.outside.text) (world_of lodged self.new later) ending) }
+        ensures says { IfOk result (Says self.old self.new (λ w. vote_turn self.old.outside.number w from to kind view (worlds.entry entry w))) }
         ensures keeps { OnOk result (KeepsNodes self.old self.new) }
     {
         match self.place_of_entry(entry) {
@@ -377,7 +379,7 @@ impl World {
         bytes: Bytes,
     ) -> Result<Option<Ending>, NoMemory>
         ensures ends { IfOk result (λ ending. IfSome ending EndsTurn) }
-        ensures turned { IfOk result (λ ending. (lodged : Lodging) (later : Items Outcome) → Turned (lie_turn self.old.outside.number (world_of lodged self.old later) from to bytes) (string_bytes self.old.outside.text) (string_bytes self.new.outside.text) (world_of lodged self.new later) ending) }
+        ensures says { IfOk result (Says self.old self.new (λ w. lie_turn self.old.outside.number w from to bytes)) }
         ensures keeps { OnOk result (KeepsNodes self.old self.new) }
     {
         if is_raft(self.outside.alloc, bytes.as_slice())? {
@@ -389,7 +391,7 @@ impl World {
     /// Signs bytes for an id.
     pub(crate) fn seal(&mut self, id: u32, bytes: &[u8]) -> Result<Option<Ending>, NoMemory>
         ensures ends { IfOk result (λ ending. IfSome ending EndsTurn) }
-        ensures turned { IfOk result (λ ending. (lodged : Lodging) (later : Items Outcome) → Turned (seal_turn self.old.outside.number (world_of lodged self.old later) id bytes.now) (string_bytes self.old.outside.text) (string_bytes self.new.outside.text) (world_of lodged self.new later) ending) }
+        ensures says { IfOk result (Says self.old self.new (λ w. seal_turn self.old.outside.number w id bytes.now)) }
         ensures keeps { OnOk result (KeepsNodes self.old self.new) }
     {
         let place = self.outside.seat.sealed();

@@ -1,5 +1,5 @@
 //! The messages that were sent.
-ghost use Rattle.std.specs.Prelude.{◌≡◌, ◌++◌, OnOk, map};
+ghost use Rattle.std.specs.Prelude.{◌≡◌, ◌++◌, ℕ, OnOk, map, take};
 ghost use Rattle.bft_node.specs.Making.{sent_of};
 ghost use Rattle.world_run.specs.Entries.{entry_of, posted};
 
@@ -17,13 +17,14 @@ pub(crate) struct Entry {
     pub(crate) came: bool,
 }
 
-/// Adds what a step of a node sends.
+/// Adds what a step of a node sends. Where there is no memory, some of it is added.
 pub(crate) fn add_sends(
     network: &mut Vec<Entry>,
     from: u32,
     sends: &[Post],
 ) -> Result<(), NoMemory>
-    ensures { OnOk result (map entry_of network.new.items ≡ map entry_of network.old.items ++ posted from (map sent_of sends.now)) }
+    ensures all { OnOk result (map entry_of network.new.items ≡ map entry_of network.old.items ++ posted from (map sent_of sends.now)) }
+    ensures front { (count : ℕ) × (map entry_of network.new.items ≡ map entry_of network.old.items ++ posted from (map sent_of (take count sends.now))) }
 {
     for post in sends {
         let bytes = post.message.clone()?;

@@ -1,8 +1,8 @@
 //! The waiting requests of a node.
-ghost use Rattle.std.specs.List.{flat_map};
+ghost use Rattle.std.specs.List.{flat_map, list_any};
 ghost use Rattle.std.specs.Prelude.{◌≡◌, IfOk, List as Items, Ok, map};
 ghost use Rattle.safety_model.specs.Blocks.{Request as SomeRequest, is_ordinary};
-ghost use Rattle.world_model.specs.Pools.{answer, entered, has_id, judged, offer, pool_after, settled};
+ghost use Rattle.world_model.specs.Pools.{answer, entered, has_id, id_eq, judged, offer, pool_after, settled};
 ghost use Rattle.world_run.specs.Answers.{answer_of};
 ghost use Rattle.bft_node.specs.declared.live.Done.{Done as SomeDone};
 
@@ -81,7 +81,7 @@ pub(crate) fn offer(alloc: Global, pool: &[Request]) -> Result<List<Request>, No
 
 /// Whether a request of this id was delivered.
 fn is_done(id: ReqId, done: &[Done]) -> bool
-    ensures { (delivered : Items SomeRequest) → flat_map (λ (block : SomeDone). block.ids) done.now ≡ map (λ r. r.id) delivered → result ≡ has_id id delivered }
+    ensures { result ≡ list_any (λ (block : SomeDone). list_any (λ other. id_eq other id) block.ids) done.now }
 {
     done.iter().any(|block| block.ids.as_slice().contains(&id))
 }

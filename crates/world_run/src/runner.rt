@@ -12,7 +12,7 @@ ghost use Rattle.world_model.specs.Turns.{at_node, ordinary, submit_turn, turn_i
 ghost use Rattle.world_model.specs.Worlds.{Outcome};
 ghost use Rattle.bft_node.specs.Lodgings.{Lodging, StaysAlike};
 ghost use Rattle.world_run.specs.Answers.{image_of};
-ghost use Rattle.world_run.specs.Going.{ByMoves, Plays};
+ghost use Rattle.world_run.specs.Going.{ByMoves, Plays, Says};
 ghost use Rattle.world_run.specs.Lines.{ArmsBy, PlaysLine, decides, stage_at};
 ghost use Rattle.world_run.specs.Mapped.{world_of};
 ghost use Rattle.world_run.specs.Sound.{IsDecided, IsEmpty, IsSound, IsStanding, KeepsNodes};
@@ -167,7 +167,7 @@ fn submit_bytes(
     bytes: &[u8],
 ) -> Result<Option<Ending>, NoMemory>
     ensures ends { IfOk result (λ ending. IfSome ending EndsTurn) }
-    ensures turned { IfOk result (λ ending. (lodged : Lodging) (later : Items Outcome) → Turned (at_node world.old.outside.number (world_of lodged world.old later) node (λ found. submit_turn world.old.outside.number word.now (world_of lodged world.old later) found bytes.now)) (string_bytes world.old.outside.text) (string_bytes world.new.outside.text) (world_of lodged world.new later) ending) }
+    ensures says { IfOk result (Says world.old world.new (λ w. at_node world.old.outside.number w node (λ found. submit_turn world.old.outside.number word.now w found bytes.now))) }
     ensures keeps { OnOk result (KeepsNodes world.old world.new) }
 {
     match world.whereabouts(node) {
@@ -187,7 +187,7 @@ fn submit(
     payload: Bytes,
 ) -> Result<Option<Ending>, NoMemory>
     ensures ends { IfOk result (λ ending. IfSome ending EndsTurn) }
-    ensures turned { IfOk result (λ ending. (lodged : Lodging) (later : Items Outcome) → Turned (turn_in core_setting world.old.outside.number (world_of lodged world.old later) (command_of.Submit node id.client id.serial payload)) (string_bytes world.old.outside.text) (string_bytes world.new.outside.text) (world_of lodged world.new later) ending) }
+    ensures says { IfOk result (Says world.old world.new (λ w. turn_in core_setting world.old.outside.number w (command_of.Submit node id.client id.serial payload))) }
     ensures keeps { OnOk result (KeepsNodes world.old world.new) }
 {
     let bytes = ordinary(world.outside.alloc, id, payload)?;
@@ -203,7 +203,7 @@ fn show<N: Nodes>(
     requires sound { IsSound (N.at nodes.old) world.old }
     ensures sound { OnOk result (IsSound (N.at nodes.new) world.new) }
     ensures ends { IfOk result (λ ending. IfSome ending EndsTurn) }
-    ensures plays { IfOk result (λ ending. ByMoves (Unit {0}) (N.at nodes.old) (N.at nodes.new) world.old world.new (λ w to. Turned (turn_in core_setting world.old.outside.number w (command_of.Show node number)) (string_bytes world.old.outside.text) (string_bytes world.new.outside.text) to ending)) }
+    ensures plays { IfOk result (Plays (N.at nodes.old) (N.at nodes.new) world.old world.new (λ w. turn_in core_setting world.old.outside.number w (command_of.Show node number))) }
 {
     match world.whereabouts(node) {
         Whereabouts::Absent => world.refuse_absent(node),
@@ -224,7 +224,7 @@ fn tick<N: Nodes>(
     requires sound { IsSound (N.at nodes.old) world.old }
     ensures sound { OnOk result (IsSound (N.at nodes.new) world.new) }
     ensures ends { IfOk result (λ ending. IfSome ending EndsTurn) }
-    ensures plays { IfOk result (λ ending. ByMoves (Unit {0}) (N.at nodes.old) (N.at nodes.new) world.old world.new (λ w to. Turned (turn_in core_setting world.old.outside.number w (command_of.Tick node count)) (string_bytes world.old.outside.text) (string_bytes world.new.outside.text) to ending)) }
+    ensures plays { IfOk result (Plays (N.at nodes.old) (N.at nodes.new) world.old world.new (λ w. turn_in core_setting world.old.outside.number w (command_of.Tick node count))) }
 {
     match world.whereabouts(node) {
         Whereabouts::Absent => world.refuse_absent(node),
@@ -243,7 +243,7 @@ fn stop<N: Nodes>(
     requires sound { IsSound (N.at nodes.old) world.old }
     ensures sound { OnOk result (IsSound (N.at nodes.new) world.new) }
     ensures ends { IfOk result (λ ending. IfSome ending EndsTurn) }
-    ensures plays { IfOk result (λ ending. ByMoves (Unit {0}) (N.at nodes.old) (N.at nodes.new) world.old world.new (λ w to. Turned (turn_in core_setting world.old.outside.number w (command_of.Stop node image)) (string_bytes world.old.outside.text) (string_bytes world.new.outside.text) to ending)) }
+    ensures plays { IfOk result (Plays (N.at nodes.old) (N.at nodes.new) world.old world.new (λ w. turn_in core_setting world.old.outside.number w (command_of.Stop node image))) }
 {
     match world.whereabouts(node) {
         Whereabouts::Absent => world.refuse_absent(node),
@@ -282,7 +282,7 @@ fn stop_at<N: Nodes>(
 /// A stopped node starts.
 fn start(world: &mut World, node: u32) -> Result<Option<Ending>, NoMemory>
     ensures ends { IfOk result (λ ending. IfSome ending EndsTurn) }
-    ensures turned { IfOk result (λ ending. (lodged : Lodging) (later : Items Outcome) → Turned (turn_in core_setting world.old.outside.number (world_of lodged world.old later) (command_of.Start node)) (string_bytes world.old.outside.text) (string_bytes world.new.outside.text) (world_of lodged world.new later) ending) }
+    ensures says { IfOk result (Says world.old world.new (λ w. turn_in core_setting world.old.outside.number w (command_of.Start node))) }
     ensures keeps { OnOk result (KeepsNodes world.old world.new) }
 {
     match world.whereabouts(node) {
@@ -309,7 +309,7 @@ fn propose<N: Nodes>(
     requires sound { IsSound (N.at nodes.now) world.old }
     ensures sound { OnOk result (IsSound (N.at nodes.now) world.new) }
     ensures ends { IfOk result (λ ending. IfSome ending EndsTurn) }
-    ensures plays { IfOk result (λ ending. ByMoves (Unit {0}) (N.at nodes.now) (N.at nodes.now) world.old world.new (λ w to. Turned (turn_in core_setting world.old.outside.number w (command_of.Propose from to view id.client id.serial payload)) (string_bytes world.old.outside.text) (string_bytes world.new.outside.text) to ending)) }
+    ensures plays { IfOk result (Plays (N.at nodes.now) (N.at nodes.now) world.old world.new (λ w. turn_in core_setting world.old.outside.number w (command_of.Propose from to view id.client id.serial payload))) }
 {
     let kind = ReqKind::Ordinary;
     match world.bar(from, to) {
@@ -328,7 +328,7 @@ fn vote(
     entry: u64,
 ) -> Result<Option<Ending>, NoMemory>
     ensures ends { IfOk result (λ ending. IfSome ending EndsTurn) }
-    ensures turned { IfOk result (λ ending. (lodged : Lodging) (later : Items Outcome) → Turned (turn_in core_setting world.old.outside.number (world_of lodged world.old later) (command_of.Vote from to kind view entry)) (string_bytes world.old.outside.text) (string_bytes world.new.outside.text) (world_of lodged world.new later) ending) }
+    ensures says { IfOk result (Says world.old world.new (λ w. turn_in core_setting world.old.outside.number w (command_of.Vote from to kind view entry))) }
     ensures keeps { OnOk result (KeepsNodes world.old world.new) }
 {
     match world.bar(from, to) {
@@ -340,7 +340,7 @@ fn vote(
 /// A Byzantine member sends bytes.
 fn lie(world: &mut World, from: u32, to: u32, bytes: Bytes) -> Result<Option<Ending>, NoMemory>
     ensures ends { IfOk result (λ ending. IfSome ending EndsTurn) }
-    ensures turned { IfOk result (λ ending. (lodged : Lodging) (later : Items Outcome) → Turned (turn_in core_setting world.old.outside.number (world_of lodged world.old later) (command_of.Lie from to bytes)) (string_bytes world.old.outside.text) (string_bytes world.new.outside.text) (world_of lodged world.new later) ending) }
+    ensures says { IfOk result (Says world.old world.new (λ w. turn_in core_setting world.old.outside.number w (command_of.Lie from to bytes))) }
     ensures keeps { OnOk result (KeepsNodes world.old world.new) }
 {
     match world.bar(from, to) {
@@ -352,7 +352,7 @@ fn lie(world: &mut World, from: u32, to: u32, bytes: Bytes) -> Result<Option<End
 /// A Byzantine member, or the administrator, who is 0, signs bytes.
 fn seal(world: &mut World, id: u32, bytes: &[u8]) -> Result<Option<Ending>, NoMemory>
     ensures ends { IfOk result (λ ending. IfSome ending EndsTurn) }
-    ensures turned { IfOk result (λ ending. (lodged : Lodging) (later : Items Outcome) → Turned (turn_in core_setting world.old.outside.number (world_of lodged world.old later) (command_of.Seal id bytes.now)) (string_bytes world.old.outside.text) (string_bytes world.new.outside.text) (world_of lodged world.new later) ending) }
+    ensures says { IfOk result (Says world.old world.new (λ w. turn_in core_setting world.old.outside.number w (command_of.Seal id bytes.now))) }
     ensures keeps { OnOk result (KeepsNodes world.old world.new) }
 {
     if id == 0 {

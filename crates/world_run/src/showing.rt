@@ -42,13 +42,15 @@ fn put_running(text: &mut String, id: u32, node: &Node) -> Result<(), AllocError
 }
 
 impl World {
+    ghost use Rattle.world_run.specs.Going.{Says};
     ghost use Rattle.world_run.specs.Mapped.{world_of};
     ghost use Rattle.world_run.specs.Sound.{IsSound, KeepsNodes};
+    ghost use Rattle.world_run.specs.Whereabouts.{whereabouts_of};
 
     /// Refuses a line for this reason.
     pub(crate) fn refuse(&mut self, reason: &str) -> Result<Option<Ending>, NoMemory>
         ensures ends { IfOk result (λ ending. IfSome ending EndsTurn) }
-        ensures turned { IfOk result (λ ending. (lodged : Lodging) (later : Items Outcome) → Turned (refuses self.old.outside.number reason.now (world_of lodged self.old later)) (string_bytes self.old.outside.text) (string_bytes self.new.outside.text) (world_of lodged self.new later) ending) }
+        ensures says { IfOk result (Says self.old self.new (refuses self.old.outside.number reason.now)) }
         ensures keeps { OnOk result (KeepsNodes self.old self.new) }
     {
         put_refused(&mut self.outside.text, self.outside.number, reason)?;
@@ -58,7 +60,7 @@ impl World {
     /// Refuses a line about a node that isn't in the world, or about a Byzantine member.
     pub(crate) fn refuse_absent(&mut self, id: u32) -> Result<Option<Ending>, NoMemory>
         ensures ends { IfOk result (λ ending. IfSome ending EndsTurn) }
-        ensures turned { IfOk result (λ ending. (lodged : Lodging) (later : Items Outcome) → Turned (refuses self.old.outside.number (absence (world_of lodged self.old later) id) (world_of lodged self.old later)) (string_bytes self.old.outside.text) (string_bytes self.new.outside.text) (world_of lodged self.new later) ending) }
+        ensures says { IfOk result (Says self.old self.new (λ w. refuses self.old.outside.number (absence w id) w)) }
         ensures keeps { OnOk result (KeepsNodes self.old self.new) }
     {
         if self.config.members.as_slice().contains(&id) {
@@ -76,7 +78,7 @@ impl World {
         word: &str,
         bytes: &[u8],
     ) -> Result<(), NoMemory>
-        requires { (member : SomeMember) × (slice_get self.old.members.items place ≡ Some member) × (member.id ≡ to) }
+        requires { whereabouts_of to self.old.members.items ≡ Whereabouts.Running place }
         ensures turned { OnOk result ((lodged : Lodging) (later : Items Outcome) (member : SomeMember) → slice_get self.old.members.items place ≡ Some member →
             Turned (submit_turn self.old.outside.number word.now (world_of lodged self.old later) (node_of self.old.config lodged member) bytes.now) (string_bytes self.old.outside.text) (string_bytes self.new.outside.text) (world_of lodged self.new later) None) }
         ensures keeps { OnOk result (KeepsNodes self.old self.new) }

@@ -1,5 +1,5 @@
 //! The world of a script: its nodes and the network.
-ghost use Rattle.std.specs.Prelude.{◌≡◌, ◌==◌, ◌++◌, false, true, IfOk, IfSome, IfNone, List as Items, OnOk, Some, None, is_some, length, position, slice_get, string_bytes, ◌≤◌, ◌&&◌, ℕ};
+ghost use Rattle.std.specs.Prelude.{◌≡◌, ◌==◌, ◌++◌, false, true, IfOk, IfSome, IfNone, List as Items, OnOk, Some, None, is_some, length, [], position, slice_get, string_bytes, ◌≤◌, ◌&&◌, ℕ};
 ghost use Rattle.ord_types.specs.Genesis.{IsGenesisConfig};
 ghost use Rattle.script.specs.Commands.{AreIds};
 ghost use Rattle.script_play.specs.Turns.{EndsTurn, Turned};
@@ -7,12 +7,13 @@ ghost use Rattle.world_model.specs.Cores.{core_setting};
 ghost use Rattle.world_model.specs.Turns.{first_config, first_world, within_limit};
 ghost use Rattle.world_model.specs.Worlds as worlds;
 ghost use Rattle.world_model.specs.Worlds.{Outcome};
-ghost use Rattle.bft_node.specs.Lodgings.{Lodging};
+ghost use Rattle.bft_node.specs.Lodgings.{Becomes, IsOpenedOn, Lodging, accepts_of};
+ghost use Rattle.bft_node.specs.declared.lodged.Lodged.{Lodged};
 ghost use Rattle.world_run.specs.Waiting.{waits_before};
 
 use crate::member::{Member, Outside};
 use crate::texts::put_limit;
-use bft_node::{Nodes, Setup};
+use bft_node::{Nodes, Setup, deeds_are_found};
 use gate_log::MemDisk;
 use ord_types::{Batch, Config, Copied, Kind, List, Mode, NoMemory};
 use script_play::Ending;
@@ -82,8 +83,9 @@ pub(crate) enum Whereabouts {
 }
 
 impl World {
+    ghost use Rattle.world_run.specs.Beginning.{Begins};
     ghost use Rattle.world_run.specs.Mapped.{world_of};
-    ghost use Rattle.world_run.specs.Moves.{AreMoves, Move, outcomes_of};
+    ghost use Rattle.world_run.specs.Moves.{AreMoves, Move, outcomes_of, setup_of};
     ghost use Rattle.world_run.specs.Sound.{IsEmpty, IsSound, NoneArmed};
     ghost use Rattle.world_run.specs.Whereabouts.{whereabouts_of};
 
@@ -114,20 +116,43 @@ impl World {
     }
 
     /// Opens the nodes of the members that are not Byzantine, each on an empty disk.
-    fn open_first<N: Nodes>(&mut self, nodes: &mut N) -> Result<(), NoMemory> {
-        for at in 0..self.config.members.len() {
-            let id = self.config.members.as_slice()[at];
+    fn open_first<N: Nodes>(&mut self, nodes: &mut N) -> Result<(), NoMemory>
+        requires config { IsGenesisConfig self.old.config }
+        requires ids { AreIds self.old.config.members }
+        requires empty { IsEmpty (N.at nodes.old) }
+        requires members { self.old.members.items ≡ [] }
+        requires network { self.old.outside.network.items ≡ [] }
+        requires seals { self.old.outside.seat.seals ≡ [] }
+        ensures sound { OnOk result (IsSound (N.at nodes.new) self.new) }
+        ensures unarmed { OnOk result (NoneArmed self.new) }
+        ensures moves { OnOk result ((moves : Items Move) × AreMoves self.old.config (N.at nodes.old) (N.at nodes.new) moves × (outcomes_of moves ≡ [])) }
+        ensures value { OnOk result ((later : Items Outcome) → world_of (N.at nodes.new) self.new later ≡ first_world core_setting later self.old.config self.old.byzantine) }
+    {
+        deeds_are_found();
+        for place in 0..self.config.members.len() {
+            let id = self.config.members.as_slice()[place];
             if !self.byzantine.as_slice().contains(&id) {
-                let disk = MemDisk::new(self.outside.alloc)?;
-                self.open(nodes, id, disk)?;
-                self.members.push(Member {
-                    id,
-                    pool: Vec::new(self.outside.alloc),
-                    runs: true,
-                    armed: false,
-                })?;
+                self.open_member(nodes, id)?;
             }
         }
+        Ok(())
+    }
+
+    /// Opens the node of a member on an empty disk.
+    fn open_member<N: Nodes>(&mut self, nodes: &mut N, id: u32) -> Result<(), NoMemory>
+        requires genesis { IsGenesisConfig self.old.config }
+        requires free { N.at nodes.old id ≡ None }
+        requires network { self.old.outside.network.items ≡ [] }
+        ensures { OnOk result (Begins (N.at nodes.old) (N.at nodes.new) self.old self.new id) }
+    {
+        let disk = MemDisk::new(self.outside.alloc)?;
+        self.open(nodes, id, disk)?;
+        self.members.push(Member {
+            id,
+            pool: Vec::new(self.outside.alloc),
+            runs: true,
+            armed: false,
+        })?;
         Ok(())
     }
 
@@ -137,7 +162,15 @@ impl World {
         nodes: &mut N,
         id: u32,
         disk: MemDisk,
-    ) -> Result<(), NoMemory> {
+    ) -> Result<(), NoMemory>
+        requires genesis { IsGenesisConfig self.old.config }
+        requires free { N.at nodes.old id ≡ None }
+        ensures opens { OnOk result ((l : Lodged) × IsOpenedOn (setup_of self.old.config id) (accepts_of self.old.outside.seat) disk l × Becomes (N.at nodes.old) (N.at nodes.new) id (Some l)) }
+        ensures config { OnOk result (self.new.config ≡ self.old.config) }
+        ensures byzantine { OnOk result (self.new.byzantine ≡ self.old.byzantine) }
+        ensures members { OnOk result (self.new.members ≡ self.old.members) }
+        ensures outside { OnOk result (self.new.outside ≡ record self.old.outside { seat = record { id = id; seals = self.old.outside.seat.seals } }) }
+    {
         let alloc = self.outside.alloc;
         let setup = Setup {
             me: id,

@@ -1,12 +1,48 @@
-use Rattle.std.proofs.Common.{sym, ◌∙◌}
-use Rattle.world_run.specs.Nodes.{node_of}
-use Rattle.world_run.proofs.ListLemmas.{node_at_none, node_at_some}
+use Rattle.std.proofs.Common.{None, sym}
+use Rattle.node_model.specs.Restarts.{Returned}
+use Rattle.world_model.specs.Turns.{at_node, show_turn}
+use Rattle.world_model.specs.Worlds as worlds
+use Rattle.world_run.specs.Mapped.{Model, world_of}
+use Rattle.world_run.specs.Members.{node_of}
+use Rattle.world_run.proofs.CommandLemmas.{absent_says, at_running, halted_says}
+use Rattle.world_run.proofs.ListLemmas.{where_running}
+use Rattle.world_run.proofs.MoveLemmas.{sound_kept}
+use Rattle.world_run.proofs.SaysLemmas.{plays_after, plays_here, sound_after}
 use Rattle.world_run.proofs.runner.show.Goals as goal
 
-pub returns-in_default-clause-turned : goal.returns-in_default-clause-turned
-returns-in_default-clause-turned c = rw (node_at_none c.args.node c.args.world.now.nodes.items (sym c.find.ensures ∙ c.in_default.is)) c.refuse_absent.ensures.turned
+pub show-requires-clause-there : goal.show-requires-clause-there
+show-requires-clause-there g c =
+    let stands = where_running c.args.node c.args.world.now.members.items c.in-Running.place (sym c.in-Running.ensures) in
+    (stands.member, stands.there)
 
-pub returns-clause-turned : goal.returns-clause-turned
-returns-clause-turned c =
-    let node = node_at_some c.args.node c.args.world.now.nodes.items c.in-Some.place (sym c.in-Some.ensures) in
-    rw node.1 (c.in_ok-show.ensures.turned (node_of node.0) node.1)
+pub returns-in-Absent-clause-sound : goal.returns-in-Absent-clause-sound
+returns-in-Absent-clause-sound g c = sound_after c.refuse_absent.result (g.N.Nodes.at c.args.nodes.now) c.args.world.now c.refuse_absent.new.self c.refuse_absent.ensures.keeps c.requires.sound
+
+pub returns-in-Absent-clause-plays : goal.returns-in-Absent-clause-plays
+returns-in-Absent-clause-plays g c =
+    let w = c.args.world.now in
+    plays_after c.refuse_absent.result (g.N.Nodes.at c.args.nodes.now) w c.refuse_absent.new.self _ c.refuse_absent.ensures.keeps
+    (absent_says c.refuse_absent.result w c.refuse_absent.new.self c.args.node (λ v found. show_turn c.args.world.now.outside.number v found c.args.number) (sym c.in-Absent.ensures) c.refuse_absent.ensures.says)
+
+pub returns-in-Stopped-clause-sound : goal.returns-in-Stopped-clause-sound
+returns-in-Stopped-clause-sound g c = sound_after c.refuse.result (g.N.Nodes.at c.args.nodes.now) c.args.world.now c.refuse.new.self c.refuse.ensures.keeps c.requires.sound
+
+pub returns-in-Stopped-clause-plays : goal.returns-in-Stopped-clause-plays
+returns-in-Stopped-clause-plays g c =
+    let w = c.args.world.now in
+    plays_after c.refuse.result (g.N.Nodes.at c.args.nodes.now) w c.refuse.new.self _ c.refuse.ensures.keeps
+    (halted_says c.refuse.result w c.refuse.new.self c.args.node c.in-Stopped._place (λ v found. show_turn c.args.world.now.outside.number v found c.args.number) (sym c.in-Stopped.ensures) c.refuse.ensures.says)
+
+pub returns-in_ok-show-in-Running-clause-sound : goal.returns-in_ok-show-in-Running-clause-sound
+returns-in_ok-show-in-Running-clause-sound g c =
+    sound_kept (g.N.Nodes.at c.args.nodes.now) (g.N.Nodes.at c.show.new.nodes) c.args.world.now c.show.new.self c.in_ok-show-in-Running.ensures.keeps c.in_ok-show-in-Running.ensures.same c.requires.sound
+
+pub returns-in_ok-show-in-Running-clause-plays : goal.returns-in_ok-show-in-Running-clause-plays
+returns-in_ok-show-in-Running-clause-plays g c =
+    let w = c.args.world.now in
+    let at = g.N.Nodes.at c.args.nodes.now in
+    let stands = where_running c.args.node w.members.items c.in-Running.place (sym c.in-Running.ensures) in
+    plays_here at (g.N.Nodes.at c.show.new.nodes) w c.show.new.self (λ (v : Model). show_turn w.outside.number v (node_of w.config at stands.member) c.args.number)
+    (λ (v : Model). at_node w.outside.number v c.args.node (λ (found : worlds.Node Returned). show_turn w.outside.number v found c.args.number)) None c.in_ok-show-in-Running.ensures.keeps c.in_ok-show-in-Running.ensures.same
+    (λ later. sym (at_running at w later w.outside.number c.args.node c.in-Running.place (λ (found : worlds.Node Returned). show_turn w.outside.number (world_of at w later) found c.args.number) stands))
+    (λ later. c.in_ok-show-in-Running.ensures.turned later stands.member stands.there)

@@ -1,8 +1,11 @@
-use Rattle.world_run.proofs.RunnerLemmas.{turn_refused}
+use Rattle.std.proofs.Common.{[]}
+use Rattle.world_model.specs.Turns.{first_config}
+use Rattle.world_run.proofs.RunnerLemmas.{line_refused}
 use Rattle.world_run.proofs.runner.Runner.begin.Goals as goal
 
-pub returns-in-Genesis-clause-turned : goal.returns-in-Genesis-clause-turned
-returns-in-Genesis-clause-turned c = rw c.in-Genesis.is c.open.ensures.turned
+pub returns-in-Genesis-clause-plays : goal.returns-in-Genesis-clause-plays
+returns-in-Genesis-clause-plays g c = rw c.in-Genesis.is c.open.ensures.plays
 
-pub returns-clause-turned : goal.returns-clause-turned
-returns-clause-turned c = rw c.requires.none (turn_refused c.args.number c.args.command _ _ c.in_default.not-Genesis c.in_ok-put_refused.ensures)
+pub returns-clause-plays : goal.returns-clause-plays
+returns-clause-plays g c =
+    rw c.requires.none (line_refused (g.N.Nodes.at c.args.self.now.nodes) (first_config []) c.args.number c.args.command _ _ c.in_default.not-Genesis c.in_ok-put_refused.ensures)

@@ -1,58 +1,82 @@
-use Rattle.std.proofs.Common.{◌∙◌, ◌-◌, ◌+◌, ◌<◌, arith, length, map, Some, None}
-use Rattle.std.proofs.lemmas.List.{length-map}
-use Rattle.std.proofs.lemmas.Option.{MatchOption-at_none}
-use Rattle.world_run.specs.Entries.{entry_of}
-use Rattle.world_run.specs.Mapped.{world_of}
-use Rattle.world_run.proofs.GoingLemmas.{Goes-trans, Turned-last}
-use Rattle.world_run.proofs.ListLemmas.{item_at}
-use Rattle.world_run.proofs.RangeLemmas.{deliveries_done, deliveries_ended, deliveries_more, deliveries_refused}
+use Rattle.std.proofs.Common.{◌∙◌, ◌-◌, ◌+◌, arith, refl}
+use Rattle.world_model.specs.Cores.{core_setting}
+use Rattle.world_model.specs.Turns.{deliveries}
+use Rattle.world_run.proofs.RangeLemmas.{range_done, range_ends, range_more, range_refused, range_start}
+use Rattle.world_run.proofs.TellingLemmas.{told_sound}
 use Rattle.world_run.proofs.world.World.deliver_range.Goals as goal
 
-pub returns-in_default-clause-delivers : goal.returns-in_default-clause-delivers
-returns-in_default-clause-delivers c = λ rest.
-    let so_far = c.loop-number.invariant in
-    let k = c.loop-number.number in
-    let left = c.args.range.last + 1 - k in
-    Turned-last _ _ _ _ _ _ None (so_far.goes rest)
-    (deliveries_refused c.args.self.now.outside.number left (left - 1) k c.loop-number.count (world_of c.loop-number.self) _ _ rest (omega arith) (MatchOption-at_none _ _ c.in_default.is c.place_of_entry.ensures.none) (rw so_far.number at c.in_ok-put_refused.ensures))
-
-pub returns-in_default-clause-number : goal.returns-in_default-clause-number
-returns-in_default-clause-number c = c.loop-number.invariant.number
-
-pub returns-in-Some-2-clause-delivers : goal.returns-in-Some-2-clause-delivers
-returns-in-Some-2-clause-delivers c = λ rest.
-    let so_far = c.loop-number.invariant in
-    let k = c.loop-number.number in
-    let left = c.args.range.last + 1 - k in
-    let network = c.loop-number.self.outside.network in
-    let within : c.in-Some.at < length (map entry_of network.items) = omega (arith, length-map network.items entry_of, c.in-Some.ensures.some.0) in
-    let e = item_at (map entry_of network.items) c.in-Some.at within in
-    let turned = rw (c.in-Some-2.is, so_far.number) at (c.in_ok-ending.ensures.turned e.0 e.1) in
-    Turned-last _ _ _ _ _ _ (Some c.in-Some-2.ending) (so_far.goes rest)
-    (deliveries_ended c.args.self.now.outside.number left (left - 1) k c.in-Some.at c.loop-number.count (world_of c.loop-number.self) _ e.0 _ _ c.in-Some-2.ending rest (omega arith) c.in-Some.ensures.some.1 e.1 turned)
-
-pub returns-in-Some-2-clause-number : goal.returns-in-Some-2-clause-number
-returns-in-Some-2-clause-number c = c.in_ok-ending.ensures.number ∙ c.loop-number.invariant.number
-
-pub loop-number-preserved : goal.loop-number-preserved
-loop-number-preserved c =
-    let so_far = c.loop-number.invariant in
-    let k = c.loop-number.number in
-    let end = c.args.range.last + 1 in
-    let network = c.loop-number.self.outside.network in
-    let within : c.in-Some.at < length (map entry_of network.items) = omega (arith, length-map network.items entry_of, c.in-Some.ensures.some.0) in
-    let e = item_at (map entry_of network.items) c.in-Some.at within in
-    let turned = rw (c.in_default-2.is, so_far.number) at (c.in_ok-ending.ensures.turned e.0 e.1) in
-    let sum = c.in_ok-sum.ensures e.0 e.1 in
+pub loop-number-init : goal.loop-number-init
+loop-number-init g c =
+    let w = c.args.self.now in
     record {
-      goes = λ rest.
-          Goes-trans _ _ _ _ _ _ (so_far.goes rest)
-          (rw sum (deliveries_more c.args.self.now.outside.number (end - k) (end - (k + 1)) k c.in-Some.at c.loop-number.count (world_of c.loop-number.self) _ e.0 _ _ rest (omega arith) c.in-Some.ensures.some.1 e.1 turned));
-      number = c.in_ok-ending.ensures.number ∙ so_far.number;
+      sound = c.requires.sound;
+      goes = range_start (g.N.Nodes.at c.args.nodes.now) w (deliveries core_setting w.outside.number (c.args.range.last + 1 - c.args.range.first) c.args.range.first c.args.so_far);
+      number = refl;
     }
 
-pub returns-clause-delivers : goal.returns-clause-delivers
-returns-clause-delivers c = λ rest.
+pub returns-in_default-clause-sound : goal.returns-in_default-clause-sound
+returns-in_default-clause-sound g c =
+    told_sound (g.N.Nodes.at c.loop-number.nodes) c.loop-number.self _ (record { config = refl; byzantine = refl; members = refl; network = refl; seat = refl; number = refl }) c.loop-number.invariant.sound
+
+pub returns-in_default-clause-delivers : goal.returns-in_default-clause-delivers
+returns-in_default-clause-delivers g c =
     let so_far = c.loop-number.invariant in
     let k = c.loop-number.number in
-    Goes-trans _ _ _ _ _ _ (so_far.goes rest) (deliveries_done c.args.self.now.outside.number (c.args.range.last + 1 - k) k c.loop-number.count (world_of c.loop-number.self) _ rest (omega arith))
+    let w = c.args.self.now in
+    let left = c.args.range.last + 1 - k in
+    let printed = rw so_far.number at c.in_ok-put_refused.ensures in
+    range_refused (g.N.Nodes.at c.args.nodes.now) (g.N.Nodes.at c.loop-number.nodes) w c.loop-number.self _
+    (deliveries core_setting w.outside.number (c.args.range.last + 1 - c.args.range.first) c.args.range.first c.args.so_far)
+    w.outside.number left (left - 1) k c.loop-number.count (omega arith) (record { config = refl; byzantine = refl; members = refl; network = refl; seat = refl; number = refl }) printed
+    c.in_default.ensures.none so_far.goes
+
+pub returns-in_default-clause-number : goal.returns-in_default-clause-number
+returns-in_default-clause-number g c = c.loop-number.invariant.number
+
+pub deliver_next-requires-clause-sound : goal.deliver_next-requires-clause-sound
+deliver_next-requires-clause-sound g c = c.loop-number.invariant.sound
+
+pub returns-in_default-2 : goal.returns-in_default-2
+returns-in_default-2 g c =
+    let so_far = c.loop-number.invariant in
+    let k = c.loop-number.number in
+    let w = c.args.self.now in
+    let end = c.args.range.last + 1 in
+    record {
+      sound = c.in_ok-other.ensures.sound;
+      ends = c.in_ok-other.ensures.ends;
+      delivers = range_ends (g.N.Nodes.at c.args.nodes.now) (g.N.Nodes.at c.loop-number.nodes) (g.N.Nodes.at c.deliver_next.new.nodes) w c.loop-number.self c.deliver_next.new.self
+          (deliveries core_setting w.outside.number (end - c.args.range.first) c.args.range.first c.args.so_far)
+          w.outside.number (end - k) (end - (k + 1)) k c.in-Some.at c.loop-number.count c.in_ok-other.other (omega arith) c.in-Some.ensures.some.1 so_far.number c.in_default-2.not-All so_far.goes c.in_ok-other.ensures.delivers;
+      number = c.in_ok-other.ensures.number ∙ so_far.number;
+    }
+
+pub loop-number-preserved : goal.loop-number-preserved
+loop-number-preserved g c =
+    let so_far = c.loop-number.invariant in
+    let k = c.loop-number.number in
+    let w = c.args.self.now in
+    let end = c.args.range.last + 1 in
+    let delivers = rw c.in-All.is at c.in_ok-other.ensures.delivers in
+    record {
+      sound = c.in_ok-other.ensures.sound;
+      goes = range_more (g.N.Nodes.at c.args.nodes.now) (g.N.Nodes.at c.loop-number.nodes) (g.N.Nodes.at c.deliver_next.new.nodes) w c.loop-number.self c.deliver_next.new.self
+          (deliveries core_setting w.outside.number (end - c.args.range.first) c.args.range.first c.args.so_far)
+          w.outside.number (end - k) (end - (k + 1)) k c.in-Some.at c.loop-number.count c.in-All.sum (omega arith) c.in-Some.ensures.some.1 so_far.number so_far.goes delivers;
+      number = c.in_ok-other.ensures.number ∙ so_far.number;
+    }
+
+pub returns-clause-sound : goal.returns-clause-sound
+returns-clause-sound g c = c.loop-number.invariant.sound
+
+pub returns-clause-delivers : goal.returns-clause-delivers
+returns-clause-delivers g c =
+    let so_far = c.loop-number.invariant in
+    let k = c.loop-number.number in
+    let w = c.args.self.now in
+    let end = c.args.range.last + 1 in
+    range_done (g.N.Nodes.at c.args.nodes.now) (g.N.Nodes.at c.loop-number.nodes) w c.loop-number.self
+    (deliveries core_setting w.outside.number (end - c.args.range.first) c.args.range.first c.args.so_far) w.outside.number (end - k) k c.loop-number.count (omega arith) so_far.goes
+
+pub returns-clause-number : goal.returns-clause-number
+returns-clause-number g c = c.loop-number.invariant.number

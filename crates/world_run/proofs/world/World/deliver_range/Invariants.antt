@@ -1,20 +1,16 @@
-use Rattle.std.proofs.Common.{◌≡◌, ◌-◌, ◌+◌, ℕ, string_bytes}
-use Rattle.node_model.specs.Cores.{Core}
-use Rattle.script_play.specs.Turns.{Turn}
+use Rattle.std.proofs.Common.{◌≡◌, ◌-◌, ◌+◌}
 use Rattle.world_model.specs.Cores.{core_setting}
 use Rattle.world_model.specs.Turns.{deliveries}
-use Rattle.world_model.specs.Worlds.{World}
-use Rattle.world_run.specs.Going.{Goes}
-use Rattle.world_run.specs.Mapped.{world_of}
+use Rattle.world_run.specs.Sound.{IsSound}
+use Rattle.world_run.proofs.RangeLemmas.{RangeBy}
 use Rattle.world_run.proofs.world.World.deliver_range.Given as goal
 
 abbrev pub invariant-loop-number : goal.invariant-loop-number
-invariant-loop-number l =
+invariant-loop-number g l =
     let number = l.fn.self.outside.number in
     let end = l.fn.range.last + 1 in
     record {
-      goes : (rest : ℕ → World Core (Unit {0}) → Turn (World Core (Unit {0})))
-          → Goes (deliveries core_setting number (end - l.fn.range.first) l.fn.range.first l.fn.so_far (world_of l.fn.self) rest) (string_bytes l.fn.self.outside.text)
-          (string_bytes l.self.outside.text) (deliveries core_setting number (end - l.number) l.number l.count (world_of l.self) rest);
+      sound : IsSound (g.N.Nodes.at l.nodes) l.self;
+      goes : RangeBy (g.N.Nodes.at l.fn.nodes) (g.N.Nodes.at l.nodes) l.fn.self l.self (deliveries core_setting number (end - l.fn.range.first) l.fn.range.first l.fn.so_far) (deliveries core_setting number (end - l.number) l.number l.count);
       number : l.self.outside.number ≡ number;
     }

@@ -5,7 +5,7 @@ abbrev pub invariant-loop-self : goal.invariant-loop-self
 invariant-loop-self l =
     record {
       outside : l.self.outside ≡ l.fn.self.outside;
-      nodes : l.self.nodes ≡ l.fn.self.nodes;
+      members : l.self.members ≡ l.fn.self.members;
       config : l.self.config ≡ l.fn.self.config;
       byzantine : l.self.byzantine ≡ l.fn.self.byzantine;
     }

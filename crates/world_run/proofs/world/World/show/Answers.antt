@@ -1,11 +1,25 @@
-use Rattle.std.proofs.Common.{sym}
-use Rattle.world_run.proofs.ShowLemmas.{shown_none, shown_some}
+use Rattle.std.proofs.Common.{None, Some, ap}
+use Rattle.ord_types.specs.declared.values.Proof.{Proof}
+use Rattle.safety_model.specs.Blocks.{Block}
+use Rattle.world_run.specs.declared.member.Member.{Member}
+use Rattle.world_run.proofs.ShowLemmas.{found_is, shown_none, shown_some}
+use Rattle.world_run.proofs.SubmitLemmas.{read_is}
 use Rattle.world_run.proofs.world.World.show.Goals as goal
 
-pub returns-in_ok-put_refused-in-None-clause-turned : goal.returns-in_ok-put_refused-in-None-clause-turned
-returns-in_ok-put_refused-in-None-clause-turned c = λ node here.
-    shown_none c.args.self.now c.args.id c.args.place c.args.number c.index.result.now _ node c.requires c.index.ensures (sym c.in-None.ensures) c.in_ok-put_refused-in-None.ensures here
+pub returns-in_ok-put_refused-in-Ok-None-clause-turned : goal.returns-in_ok-put_refused-in-Ok-None-clause-turned
+returns-in_ok-put_refused-in-Ok-None-clause-turned g c = λ later member has.
+    let at = g.N.Nodes.at c.args.nodes.now in
+    let w = c.args.self.now in
+    shown_none at w later c.args.number member _
+    (found_is at w c.args.place c.args.number c.index.result.now member None c.requires.sound has c.index.ensures (λ l there. rw c.in-Ok-None.field-0-is at (c.in-Ok-None.ensures.value l there)))
+    c.in_ok-put_refused-in-Ok-None.ensures
 
-pub returns-in_ok-put_show-in-Some-clause-turned : goal.returns-in_ok-put_show-in-Some-clause-turned
-returns-in_ok-put_show-in-Some-clause-turned c = λ node here.
-    shown_some c.args.self.now c.args.id c.args.place c.args.number c.index.result.now c.in-Some.stored.now _ node c.requires c.index.ensures (sym c.in-Some.ensures) c.in_ok-put_show-in-Some.ensures here
+pub returns-in_ok-put_show-in-Ok-Some-clause-turned : goal.returns-in_ok-put_show-in-Ok-Some-clause-turned
+returns-in_ok-put_show-in-Ok-Some-clause-turned g c = λ later member has.
+    let at = g.N.Nodes.at c.args.nodes.now in
+    let w = c.args.self.now in
+    let stored : Block × Proof = (c.in-Ok-Some.block, c.in-Ok-Some.proof) in
+    shown_some at w later c.index.result.now.id c.args.number member stored _
+    (ap (λ (m : Member). m.id) (read_is w.members.items c.args.place c.index.result.now member c.index.ensures has))
+    (found_is at w c.args.place c.args.number c.index.result.now member (Some stored) c.requires.sound has c.index.ensures (λ l there. rw c.in-Ok-Some.field-0-is at (c.in-Ok-Some.ensures.value l there)))
+    c.in_ok-put_show-in-Ok-Some.ensures
