@@ -35,7 +35,7 @@ counts disk keys = record { disk = disk; keys = keys }
 
 -- A DEED THAT NEEDS MORE THAN MAY BE
 
--- the length that a deed's record or its file would get, where it is too great
+-- the length that the file would get to which a deed is written, where it is too great
 abbrev pub write_limit : Store → Deed → Option ℕ
 write_limit store (Accepts i e v s b) = log_limit store (record_of.Accepted e v s b)
 write_limit store (Prepares i e v s d) = log_limit store (record_of.Prepared e v s d)
@@ -46,12 +46,11 @@ is_delivery (Delivers i b cert) = true
 is_delivery (Accepts i e v s b) = false
 is_delivery (Prepares i e v s d) = false
 
--- A deed of a node that holds so would make a record or a file too long, or is the delivery after which no number is left. Where the disk
--- tells, it is so of a store that is kept: its files stand for what it holds.
+-- A deed of a node that holds so would make a file too long, or is the delivery after which no number is left. Where the disk tells, the
+-- files are those in which the node's store is kept.
 abbrev pub NeedsMore : Bool → ℕ → Deed → Held → Type 0
 NeedsMore tells limit deed held =
-    ((limit ≡ 2 ^ 62)
-    × ((store : Store) × (held_of store ≡ held) × IsSome (write_limit store deed) × (IsTrue tells → (state : State) × IsKept store state)))
+    ((limit ≡ 2 ^ 62) × ((store : Store) × (held_of store ≡ held) × IsSome (write_limit store deed) × (IsTrue tells → (state : State) × IsKept store state)))
     ⊎ ((limit ≡ 4611686018427387903) × (is_delivery deed ≡ true) × (4611686018427387903 ≤ length held.blocks))
 
 -- the same of the deed at which a call fails

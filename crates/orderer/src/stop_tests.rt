@@ -19,7 +19,7 @@ submit 1 1 2 bb
 tick 1
 flush
 "
-            .as_slice(),
+                .as_slice(),
             b"1 genesis
 2 submit 1 admitted
 3 stop-at 1
@@ -38,7 +38,7 @@ node 3 height 2 config 0 view 0 left 0
 node 4 height 2 config 0 view 0 left 0
 sent 27
 "
-            .as_slice(),
+                .as_slice(),
         ),
         (
             b"genesis bft 1,2,3,4 batch=1 byz=4

@@ -200,11 +200,7 @@ fn endings(rt: HostRuntime) -> Result<(), Fail> {
             3,
             b"2 malformed at 6\n".as_slice(),
         ),
-        (
-            b"flush\njoin 1\n",
-            17,
-            b"1 refused no world\n2 not built\n",
-        ),
+        (b"flush\njoin 1\n", 17, b"1 refused no world\n2 not built\n"),
         (b"genesis bft 1,2\n", 17, b"1 not built\n"),
     ] {
         let (found, sink) = played(rt.alloc(), script, 0, 0)?;

@@ -101,8 +101,8 @@ plays_running at next w new id place turn ending stands plays =
     by_weaker (Unit {0}) at next w new (λ v to. Turned (turn v (node_of w.config at stands.member)) (string_bytes w.outside.text) (string_bytes new.outside.text) to ending)
     (λ v to. Turned (at_node w.outside.number v id (turn v)) (string_bytes w.outside.text) (string_bytes new.outside.text) to ending)
     (λ first later turned.
-        Turned-same (turn (world_of at w first) (node_of w.config at stands.member)) (at_node w.outside.number (world_of at w first) id (turn (world_of at w first))) _ _ _ ending
-        (sym (at_running at w first w.outside.number id place (turn (world_of at w first)) stands)) turned)
+    Turned-same (turn (world_of at w first) (node_of w.config at stands.member)) (at_node w.outside.number (world_of at w first) id (turn (world_of at w first))) _ _ _ ending
+    (sym (at_running at w first w.outside.number id place (turn (world_of at w first)) stands)) turned)
     plays
 
 -- the same of a turn that any node of this id has

@@ -96,8 +96,8 @@ event_failed at lodging next old mid new place read event seat after deeds_stand
     let crash = crashes read failed there stepped_to.2.there in
     let crashed = crashes_behind at lodging next mid new place read failed.disk Keep (Some failed) stepped_to.2 crash.1 in
     let opens : IsOpenedOn (setup_of old.config read.id) (accepts_of after) crashed.left crashed.node =
-        subst (λ (c : Config). IsOpenedOn (setup_of c read.id) (accepts_of after) crashed.left crashed.node) between.config
-        (subst (λ (o : Outside). IsOpenedOn (setup_of mid.config read.id) (accepts_of o.seat) crashed.left crashed.node) between.outside crashed.opened) in
+    subst (λ (c : Config). IsOpenedOn (setup_of c read.id) (accepts_of after) crashed.left crashed.node) between.config
+    (subst (λ (o : Outside). IsOpenedOn (setup_of mid.config read.id) (accepts_of o.seat) crashed.left crashed.node) between.outside crashed.opened) in
     let stopped = stopped_in old.config old.outside.seat.seals read.id l failed crashed.node event after Keep crashed.left deeds_stand have model here.seated is crashed.crash opens in
     let first = take stopped.kept (deeds_of returned_returns (keys_of old.outside.seat.seals read.id) (state_of l.node.running) (event_of event)) in
     took_told at next old new place read event None has
@@ -127,7 +127,7 @@ took_number (Err e) at next old new place event there took = tt
 
 pub took_plays : (result : Result (Option Ending) NoMemory) (at next : Lodging) (old new : World) (place : ℕ) (event : Event) → IfOk result (Took at next old new place event)
     → IfOk result (λ ending. (member : Member) → slice_get old.members.items place ≡ Some member
-      → Plays at next old new (λ w. event_turn core_setting old.outside.number w (node_of old.config at member) (event_of event)) ending)
+    → Plays at next old new (λ w. event_turn core_setting old.outside.number w (node_of old.config at member) (event_of event)) ending)
 took_plays (Ok ending) at next old new place event took = λ member has. (took member has).plays
 took_plays (Err e) at next old new place event took = tt
 
@@ -135,7 +135,7 @@ took_plays (Err e) at next old new place event took = tt
 pub took_tick : (result : Result (Option Ending) NoMemory) (at next : Lodging) (old new : World) (place : ℕ) (offer : List Request)
     → ((member : Member) → slice_get old.members.items place ≡ Some member → offer ≡ offer_to returned_ways (node_of old.config at member)) → IfOk result (Took at next old new place (events.Tick offer))
     → IfOk result (λ ending. (member : Member) → slice_get old.members.items place ≡ Some member
-      → Plays at next old new (λ w. tick_at core_setting old.outside.number w (Some (node_of old.config at member))) ending)
+    → Plays at next old new (λ w. tick_at core_setting old.outside.number w (Some (node_of old.config at member))) ending)
 took_tick (Ok ending) at next old new place offer is took = λ member has.
     subst (λ (given : List Request). Plays at next old new (λ w. event_turn core_setting old.outside.number w (node_of old.config at member) (Tick given)) ending) (is member has) (took member has).plays
 took_tick (Err e) at next old new place offer is took = tt

@@ -49,7 +49,7 @@ pub followed : (result : Result (Option Ending) NoMemory) (old new : World) (pla
     → map entry_of network ≡ network_after old read.id out
     → text ≡ string_bytes old.outside.text ++ flat_map (fact_text old.outside.number) out.facts
     → IfOk result (λ ending. (at : Lodging) (later : List Outcome) (before blocks : List ℕ) → text ≡ before ++ blocks
-      → Turned (within_limit old.outside.number blocks (world_with at old members.items (map entry_of network) later)) before (string_bytes new.outside.text) (world_of at new later) ending)
+    → Turned (within_limit old.outside.number blocks (world_with at old members.items (map entry_of network) later)) before (string_bytes new.outside.text) (world_of at new later) ending)
     → OnOk result (new.members ≡ members) → OnOk result (new.config ≡ old.config) → OnOk result (new.outside.seat ≡ old.outside.seat) → OnOk result (new.outside.number ≡ old.outside.number)
     → IfOk result (λ ending. (member : Member) → slice_get old.members.items place ≡ Some member → Follows old new place member out ending)
 followed (Err e) old new place read moved out members network text is id runs armed pool set sent printed turned kept config seat number = tt

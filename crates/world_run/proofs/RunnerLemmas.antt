@@ -42,7 +42,7 @@ line_played result at next w new command shown is plays =
     subst (λ (c : Command). IfOk result (LineBy at next w new c)) (sym is)
     (IfOk-weaker result (Plays at next w new (λ v. turn_in core_setting w.outside.number v shown)) (LineBy at next w new shown)
     (λ ending by. by_quieter (Unit {0}) (decides shown) at next w new
-        (λ v to. Turned (turn_in core_setting w.outside.number v shown) (string_bytes w.outside.text) (string_bytes new.outside.text) to ending) (λ quiet. tt) by)
+    (λ v to. Turned (turn_in core_setting w.outside.number v shown) (string_bytes w.outside.text) (string_bytes new.outside.text) to ending) (λ quiet. tt) by)
     plays)
 
 -- or said it, and touched no node

@@ -24,8 +24,8 @@ pub says_after : (result : Result (Option Ending) NoMemory) (old mid new : World
 says_after result old mid new t u begin same says =
     IfOk-weaker result (Says mid new t) (Says old new u)
     (λ ending said. λ at later.
-        subst (λ (text : List ℕ). Turned (u (world_of at old later)) text (string_bytes new.outside.text) (world_of at new later) ending) begin
-        (Turned-same (t (world_of at mid later)) (u (world_of at old later)) _ _ _ ending (same at later) (said at later)))
+    subst (λ (text : List ℕ). Turned (u (world_of at old later)) text (string_bytes new.outside.text) (world_of at new later) ending) begin
+    (Turned-same (t (world_of at mid later)) (u (world_of at old later)) _ _ _ ending (same at later) (said at later)))
     says
 
 -- the same turn by another name
@@ -88,4 +88,4 @@ pub plays_here : (at next : Lodging) (old new : World) (t u : Model → Turn Mod
 plays_here at next old new t u ending keeps alike same turned =
     by_none (Unit {0}) at next old new (λ w to. Turned (u w) (string_bytes old.outside.text) (string_bytes new.outside.text) to ending) alike keeps.config keeps.armed
     (λ later. subst (λ (w : Model). Turned (u (world_of at old later)) (string_bytes old.outside.text) (string_bytes new.outside.text) w ending) (sym (world_alike at next new later alike))
-        (Turned-same (t (world_of at old later)) (u (world_of at old later)) _ _ _ ending (same later) (turned later)))
+    (Turned-same (t (world_of at old later)) (u (world_of at old later)) _ _ _ ending (same later) (turned later)))

@@ -54,8 +54,8 @@ fits_from box id before seat [] is given = ap (λ (k : Seat). is_sealed k.seals)
 fits_from box id before seat (s ∷ more) is given =
     let one : List Seal = record { signer = id; statement = s.statement } ∷ [] in
     let next : s.keys ≡ with_seals id (box ++ seals_of id (before ++ s.statement ∷ [])) =
-        given.0.1 ∙ ap (λ (k : Seat). with_seal k s.statement) is
-        ∙ ap (with_seals id) (append_assoc box (seals_of id before) one ∙ ap (λ (l : List Seal). box ++ l) (sym (seals_of-append id before (s.statement ∷ [])))) in
+    given.0.1 ∙ ap (λ (k : Seat). with_seal k s.statement) is
+    ∙ ap (with_seals id) (append_assoc box (seals_of id before) one ∙ ap (λ (l : List Seal). box ++ l) (sym (seals_of-append id before (s.statement ∷ [])))) in
     (ap (λ (k : Seat). is_sealed k.seals) (sym is), sym (given.0.0 ∙ ap next_sig is), fits_from box id (before ++ s.statement ∷ []) s.keys more next given.1)
 
 keys_fit : (seat : Seat) (signings : List (Signing Seat)) → AreGiven SealsOne seat signings → KeysFit accepts_of (keys_of seat.seals seat.id) [] seat signings

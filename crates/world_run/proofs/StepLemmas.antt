@@ -218,7 +218,8 @@ event_taken at next old mid new place member l node event after out ending sound
           ∙ ap (λ (n : worlds.Node Returned). event_turn core_setting old.outside.number (world_of at old (outcomes_of (move ∷ []) ++ later)) n (event_of event)) (sym (node_there old.config at member l there)))
           (goes at next old mid new place member l node event after out ending sound has runs there becomes did between follows later);
       decided = λ quiet none.
-          let unarmed = unarmed_at old place member none has in
-          (quiet_taken member.armed member.id event seat after out unarmed,
-           unarmed_set old new place follows.moved none (follows.armed ∙ unarmed) (members_are at next old mid new place member l node event after out ending sound has runs there becomes did between follows));
+          let unarmed = unarmed_at old place member none has in (
+            quiet_taken member.armed member.id event seat after out unarmed,
+            unarmed_set old new place follows.moved none (follows.armed ∙ unarmed) (members_are at next old mid new place member l node event after out ending sound has runs there becomes did between follows),
+          );
     }

@@ -95,7 +95,7 @@ reopened c accepts id l node left deeds model is opens stands =
     let after = with_deeds deeds (held_of l.node.running.store) in
     let r : Returned = record (state_of l.node.running) { core = core_did deeds (state_of l.node.running).core } in
     let held : held_of store ≡ after =
-        same_held (held_of store) after (same_chain (held_of store).blocks after.blocks (sym is.value.0 ∙ opens.ledger)) (same_records (held_of store).records after.records (sym is.value.1 ∙ opens.log)) in
+    same_held (held_of store) after (same_chain (held_of store).blocks after.blocks (sym is.value.0 ∙ opens.ledger)) (same_records (held_of store).records after.records (sym is.value.1 ∙ opens.log)) in
     let state : state_of node.node.running ≡ returned_returns.reopens r = is.state ∙ ap (opened c id) held ∙ model c id after r stands in
     record {
       held = held;
@@ -221,14 +221,14 @@ event_stopped at next old mid new place member l failed event after sound has ar
     let m = made_by old.outside.seat.seals member.id l event in
     let move = StopsIn member.id event seat after stopped.kept count in
     let opens : IsOpenedOn (setup_of old.config member.id) (accepts_of after) crashed.left node =
-        subst (λ (c : Config). IsOpenedOn (setup_of c member.id) (accepts_of after) crashed.left node) between.config
-        (subst (λ (o : Outside). IsOpenedOn (setup_of mid.config member.id) (accepts_of o.seat) crashed.left node) between.outside crashed.opened) in
+    subst (λ (c : Config). IsOpenedOn (setup_of c member.id) (accepts_of after) crashed.left node) between.config
+    (subst (λ (o : Outside). IsOpenedOn (setup_of mid.config member.id) (accepts_of o.seat) crashed.left node) between.outside crashed.opened) in
     let held = held_of l.node.running.store in
     let holds : deeds_held (held_of node.node.running.store) ≡ deeds_held held + stopped.kept =
-        ap deeds_held stopped.again.held ∙ deeds_held_more first held ∙ ap (λ (n : ℕ). deeds_held held + n) (length-take-le stopped.kept deeds stopped.some) in
+    ap deeds_held stopped.again.held ∙ deeds_held_more first held ∙ ap (λ (n : ℕ). deeds_held held + n) (length-take-le stopped.kept deeds stopped.some) in
     let counted : length after.seals ≡ length old.outside.seat.seals + count =
-        ap (λ (box : List Seal). length box) stopped.seals ∙ length-append old.outside.seat.seals (seals_of member.id stopped.statements)
-        ∙ ap (λ (n : ℕ). length old.outside.seat.seals + n) (length-map stopped.statements (λ (statement : List ℕ). record { signer = member.id; statement = statement })) in
+    ap (λ (box : List Seal). length box) stopped.seals ∙ length-append old.outside.seat.seals (seals_of member.id stopped.statements)
+    ∙ ap (λ (n : ℕ). length old.outside.seat.seals + n) (length-map stopped.statements (λ (statement : List ℕ). record { signer = member.id; statement = statement })) in
     let reopens : Reopens old.config after Keep failed node = record { disk = crashed.left; left = crashed.crash.image_is; opened = subst (λ (i : ℕ). IsOpenedOn (setup_of old.config i) (accepts_of after) crashed.left node) (sym opens.id) opens } in
     record {
       moves = move ∷ [];
@@ -273,7 +273,7 @@ stop_played at next old new place member l image sound has there crashed again =
     let seat = old.outside.seat in
     let node = crashed.node in
     let reopens : Reopens old.config seat image l node =
-        record { disk = crashed.left; left = crashed.crash.image_is; opened = subst (λ (i : ℕ). IsOpenedOn (setup_of old.config i) (accepts_of seat) crashed.left node) (sym crashed.opened.id) crashed.opened } in
+    record { disk = crashed.left; left = crashed.crash.image_is; opened = subst (λ (i : ℕ). IsOpenedOn (setup_of old.config i) (accepts_of seat) crashed.left node) (sym crashed.opened.id) crashed.opened } in
     record {
       moves = StopsNow member.id image seat ∷ [];
       made = (next, (l, node, there, reopens, crashed.becomes), alike_self next);

@@ -44,7 +44,7 @@ pub submitted_turn : (at : Lodging) (w : World) (later : List Outcome) (id place
     → new.id ≡ read.id → node_of w.config at new ≡ with_pool w.config at read (pool_after read.pool.items bytes)
     → given ≡ answer read.pool.items bytes → after ≡ string_bytes w.outside.text ++ answer_text w.outside.number word id given
     → Turned (submit_turn w.outside.number word (world_of at w later) (node_of w.config at member) bytes) (string_bytes w.outside.text) after
-        (record (world_of at w later) { nodes = map (node_of w.config at) (set w.members.items place new) }) None
+    (record (world_of at w later) { nodes = map (node_of w.config at) (set w.members.items place new) }) None
 submitted_turn at w later id place word read member new bytes given after first has is same becomes answers printed =
     let c = w.config in
     let members = w.members.items in
@@ -53,7 +53,7 @@ submitted_turn at w later id place word read member new bytes given after first 
     let mine : read.id ≡ id = ap (λ (m : Member). m.id) there ∙ known in
     let turn = λ (n : worlds.Node Returned). submit_turn w.outside.number word (world_of at w later) n bytes in
     let nodes = ap (λ (n : worlds.Node Returned). worlds.with_node n (map (node_of c at) members)) (sym becomes)
-        ∙ with_node_set c at members place new (subst (λ (i : ℕ). HasPlace i members place) (sym (same ∙ mine)) first) in
+    ∙ with_node_set c at members place new (subst (λ (i : ℕ). HasPlace i members place) (sym (same ∙ mine)) first) in
     Turned-same (turn (node_of c at read)) (turn (node_of c at member)) (string_bytes w.outside.text) after (record (world_of at w later) { nodes = map (node_of c at) (set members place new) }) None
     (ap (λ (m : Member). turn (node_of c at m)) there)
     (record {

@@ -82,7 +82,7 @@ gone_there mid at xs place read is gone member has = ap (λ (m : Member). mid m.
 said_of : (at next : Lodging) (w : World) (members : List Member) (said text : List ℕ) (node : worlds.Node Returned)
     → worlds.with_node node (map (node_of w.config at) w.members.items) ≡ map (node_of w.config next) members → text ≡ string_bytes w.outside.text ++ said → (later : List Outcome)
     → Turned (says said (record (world_of at w later) { nodes = worlds.with_node node (map (node_of w.config at) w.members.items) })) (string_bytes w.outside.text) text
-      (world_with next w members (map entry_of w.outside.network.items) later) None
+    (world_with next w members (map entry_of w.outside.network.items) later) None
 said_of at next w members said text node becomes printed later =
     record { printed = printed; next = ap (λ (ns : List (worlds.Node Returned)). Ok (record (world_of at w later) { nodes = ns })) becomes }
 
@@ -119,7 +119,7 @@ pub armed_turned : (at next : Lodging) (w : World) (place : ℕ) (read : Member)
     → Becomes at next read.id (option_map (with_arm call image) (at read.id)) → text ≡ string_bytes w.outside.text ++ stop_at_text w.outside.number read.id
     → (member : Member) → slice_get w.members.items place ≡ Some member → (later : List Outcome)
     → Turned (stop_at_turn w.outside.number (world_of at w later) (node_of w.config at member)) (string_bytes w.outside.text) text
-      (world_with next w (slice_set w.members.items place (record read { armed = true })) (map entry_of w.outside.network.items) later) None
+    (world_with next w (slice_set w.members.items place (record read { armed = true })) (map entry_of w.outside.network.items) later) None
 armed_turned at next w place read call image text sound is becomes printed member has later =
     let same : read ≡ member = read_is w.members.items place member read has is in
     let armed = armed_there at next w place read call image sound is becomes member has in
@@ -128,7 +128,7 @@ armed_turned at next w place read call image text sound is becomes printed membe
     let id : moved.id ≡ member.id = ap (λ (m : Member). m.id) same in
     let old_node = node_there w.config at member l armed.1 in
     let node : ◌≡◌ {A = worlds.Node Returned} (record (node_of w.config at member) { armed = true }) (node_of w.config next moved) =
-        ap (λ (n : worlds.Node Returned). record n { armed = true }) (old_node ∙ ap (λ (m : Member). node_with m l) (sym same)) ∙ sym (node_there w.config next moved (with_arm call image l) (ap next id ∙ armed.2.there)) in
+    ap (λ (n : worlds.Node Returned). record n { armed = true }) (old_node ∙ ap (λ (m : Member). node_with m l) (sym same)) ∙ sym (node_there w.config next moved (with_arm call image l) (ap next id ∙ armed.2.there)) in
     said_of at next w (slice_set w.members.items place moved) (stop_at_text w.outside.number member.id) text (record (node_of w.config at member) { armed = true })
     (ap (λ (n : worlds.Node Returned). worlds.with_node n (map (node_of w.config at) w.members.items)) node
     ∙ with_node_becomes w.config at next w.members.items place member moved (Some (with_arm call image l)) sound.ids has id (subst (λ (i : ℕ). Becomes at next i (Some (with_arm call image l))) (sym id) armed.2))
@@ -151,7 +151,7 @@ started_keeps old new place read there is config seat number members =
 pub started_turned : (w : World) (place : ℕ) (read : Member) (text : List ℕ) → read ≡ get_or w.members.items place read → text ≡ string_bytes w.outside.text ++ start_text w.outside.number read.id
     → ((member : Member) → slice_get w.members.items place ≡ Some member → HasPlace member.id w.members.items place) → (member : Member) → slice_get w.members.items place ≡ Some member → (at : Lodging) (later : List Outcome)
     → Turned (start_turn w.outside.number (world_of at w later) (node_of w.config at member)) (string_bytes w.outside.text) text
-      (world_with at w (slice_set w.members.items place (record read { runs = true })) (map entry_of w.outside.network.items) later) None
+    (world_with at w (slice_set w.members.items place (record read { runs = true })) (map entry_of w.outside.network.items) later) None
 started_turned w place read text is printed first member has at later =
     let same : read ≡ member = read_is w.members.items place member read has is in
     said_of at at w (slice_set w.members.items place (record read { runs = true })) (start_text w.outside.number member.id) text (worlds.node_started (node_of w.config at member))

@@ -18,11 +18,7 @@ pub(crate) struct Entry {
 }
 
 /// Adds what a step of a node sends. Where there is no memory, some of it is added.
-pub(crate) fn add_sends(
-    network: &mut Vec<Entry>,
-    from: u32,
-    sends: &[Post],
-) -> Result<(), NoMemory>
+pub(crate) fn add_sends(network: &mut Vec<Entry>, from: u32, sends: &[Post]) -> Result<(), NoMemory>
     ensures all { OnOk result (map entry_of network.new.items ≡ map entry_of network.old.items ++ posted from (map sent_of sends.now)) }
     ensures front { (count : ℕ) × (map entry_of network.new.items ≡ map entry_of network.old.items ++ posted from (map sent_of (take count sends.now))) }
 {

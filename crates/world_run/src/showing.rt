@@ -122,12 +122,7 @@ impl World {
     }
 
     /// The closing line of a member.
-    fn closing_of<N: Nodes>(
-        &self,
-        nodes: &N,
-        id: u32,
-        text: &mut String,
-    ) -> Result<(), AllocError>
+    fn closing_of<N: Nodes>(&self, nodes: &N, id: u32, text: &mut String) -> Result<(), AllocError>
         requires { IsSound (N.at nodes.now) self.now }
         ensures { OnOk result ((later : Items Outcome) → string_bytes text.new ≡ string_bytes text.old ++ closing_of_member core_setting id (worlds.node_at id (world_of (N.at nodes.now) self.now later).nodes)) }
     {

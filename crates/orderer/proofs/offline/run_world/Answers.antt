@@ -23,8 +23,8 @@ returns-in-Ok-clause-plays g c = λ reads.
     (λ none. record { decided = c.new-runner.ensures.decided; each = none })
     c.status.ensures.value (c.in-Ok.ensures.played reads)
 
-pub returns-in-Err-clause-plays : goal.returns-in-Err-clause-plays
-returns-in-Err-clause-plays g c = λ reads.
+pub returns-clause-plays : goal.returns-clause-plays
+returns-clause-plays g c = λ reads.
     let script = told (g.S.Source.left c.args.source.now) in
     let run = λ (stage : Stage Returned (Unit {0})). script_run (stage_turn core_setting) (stage_closing core_setting) stage script in
     plays_script _ script _ _ _ _ _

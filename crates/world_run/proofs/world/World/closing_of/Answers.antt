@@ -23,5 +23,5 @@ pub returns-in-Running : goal.returns-in-Running
 returns-in-Running g c =
     on_ok_weaker c.put_running.result
     (λ printed. λ later.
-        closed_running (g.N.Nodes.at c.args.nodes.now) c.args.self.now later c.args.id c.in-Running._place c.node.result.now _ _ (sym c.in-Running.ensures) c.node.ensures printed)
+    closed_running (g.N.Nodes.at c.args.nodes.now) c.args.self.now later c.args.id c.in-Running._place c.node.result.now _ _ (sym c.in-Running.ensures) c.node.ensures printed)
     c.put_running.ensures

@@ -20,15 +20,16 @@ returns-clause-crashes g c =
     let new = c.crash.new.self in
     let disk = c.stop-disk.result in
     let reached : is_reached disk.arm ≡ true =
-        elim c.if-index.branch [
-          | then-index w ↦ sym w.stopped.ensures ∙ sym w.value-is ∙ c.if-not-stopped.false
-          | else-index w ↦ absurd (let e : true ≡ false = sym c.if-not-stopped.false ∙ w.value-is ∙ w.if-index.false in cc)
-        ] in
+    elim c.if-index.branch [
+      | then-index w ↦ sym w.stopped.ensures ∙ sym w.value-is ∙ c.if-not-stopped.false
+      | else-index w ↦ absurd (let e : true ≡ false = sym c.if-not-stopped.false ∙ w.value-is ∙ w.if-index.false in cc)
+    ] in
     on_ok_weaker c.crash.result
     (λ (crashed : (member : Member) → slice_get old.members.items c.args.place ≡ Some member → Crashes mid next old new c.args.place member disk Keep) (member : Member) (failed : Lodged) has there.
-        let id = ap (λ (m : Member). m.id) (read_is old.members.items c.args.place member c.index.result.now has c.index.ensures) in
-        let same = disk_of (at c.index.result.now.id) failed disk c.stop-disk.ensures.disk (ap at id ∙ there) in
-        let gone = subst (λ i. Becomes at mid i None) id c.stop-disk.ensures.gone in
-        (subst (λ (d : MemDisk). is_reached d.arm ≡ true) same reached,
-         subst (λ (d : MemDisk). Crashes at next old new c.args.place member d Keep) same (crashes_behind at mid next old new c.args.place member disk Keep None gone (crashed member has))))
+    let id = ap (λ (m : Member). m.id) (read_is old.members.items c.args.place member c.index.result.now has c.index.ensures) in
+    let same = disk_of (at c.index.result.now.id) failed disk c.stop-disk.ensures.disk (ap at id ∙ there) in
+    let gone = subst (λ i. Becomes at mid i None) id c.stop-disk.ensures.gone in (
+      subst (λ (d : MemDisk). is_reached d.arm ≡ true) same reached,
+      subst (λ (d : MemDisk). Crashes at next old new c.args.place member d Keep) same (crashes_behind at mid next old new c.args.place member disk Keep None gone (crashed member has)),
+    ))
     c.crash.ensures

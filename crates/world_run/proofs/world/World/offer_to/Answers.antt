@@ -24,6 +24,6 @@ returns g c =
     IfOk-weaker c.offer.result (λ (given : List Request). given ≡ offer c.as_slice.result.now)
     (λ (given : List Request). (member : Member) → slice_get w.members.items c.args.place ≡ Some member → given ≡ worlds.offer_to returned_ways (node_of w.config at member))
     (λ given is member has.
-        is ∙ ap offer c.as_slice.ensures.value ∙ ap (λ (b : Bool). cond b (offer read.pool.items) []) (sym c.if-not-may_propose.false)
-        ∙ offered at w c.args.place member read c.node.result.now c.may_propose.result c.requires.sound has c.index-member.ensures c.node.ensures c.may_propose.ensures)
+    is ∙ ap offer c.as_slice.ensures.value ∙ ap (λ (b : Bool). cond b (offer read.pool.items) []) (sym c.if-not-may_propose.false)
+    ∙ offered at w c.args.place member read c.node.result.now c.may_propose.result c.requires.sound has c.index-member.ensures c.node.ensures c.may_propose.ensures)
     c.offer.ensures

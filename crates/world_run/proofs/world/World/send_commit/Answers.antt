@@ -15,13 +15,13 @@ returns-clause-says c =
     let signed = c.in_ok-sig.ensures in
     says_after c.send.result w c.sign.new.self c.send.new.self (λ (v : Model). sends c.sign.new.self.outside.number (codes "byz-vote") v c.args.from c.args.to c.in_ok-bytes.bytes)
     (λ (v : Model). sends w.outside.number (codes "byz-vote") (with_signed v c.args.from (statement_of c.args.subject c.args.view)) c.args.from c.args.to
-        (message_text (commit_of c.args.subject c.args.view (sig_at c.args.from (length v.seals)))))
+    (message_text (commit_of c.args.subject c.args.view (sig_at c.args.from (length v.seals)))))
     (ap string_bytes signed.text)
     (λ at later.
-        sends_equal w.outside.number c.sign.new.self.outside.number (codes "byz-vote") c.in_ok-bytes.bytes
-        (message_text (commit_of c.args.subject c.args.view (sig_at c.args.from (length w.outside.seat.seals))))
-        (with_signed (world_of at w later) c.args.from (statement_of c.args.subject c.args.view)) (world_of at c.sign.new.self later) c.args.from c.args.to
-        signed.keeps.number
-        (signed.world at later ∙ ap (λ (statement : List ℕ). with_signed (world_of at w later) c.args.from statement) c.commit_statement-statement.ensures)
-        (c.in_ok-bytes.ensures ∙ ap (λ (sig : Sig). message_text (commit_of c.args.subject c.args.view sig)) signed.sig))
+    sends_equal w.outside.number c.sign.new.self.outside.number (codes "byz-vote") c.in_ok-bytes.bytes
+    (message_text (commit_of c.args.subject c.args.view (sig_at c.args.from (length w.outside.seat.seals))))
+    (with_signed (world_of at w later) c.args.from (statement_of c.args.subject c.args.view)) (world_of at c.sign.new.self later) c.args.from c.args.to
+    signed.keeps.number
+    (signed.world at later ∙ ap (λ (statement : List ℕ). with_signed (world_of at w later) c.args.from statement) c.commit_statement-statement.ensures)
+    (c.in_ok-bytes.ensures ∙ ap (λ (sig : Sig). message_text (commit_of c.args.subject c.args.view sig)) signed.sig))
     c.send.ensures.says

@@ -29,5 +29,5 @@ returns-clause-number g c =
     let there = c.requires.there in
     on_ok_weaker c.crash.result
     (λ (crashes : (member : Member) → slice_get c.args.self.now.members.items c.args.place ≡ Some member
-        → Crashes (g.N.Nodes.at c.stop-disk.new.self) (g.N.Nodes.at c.crash.new.nodes) c.args.self.now c.crash.new.self c.args.place member c.stop-disk.result c.args.image). (crashes there.0 there.1).number)
+    → Crashes (g.N.Nodes.at c.stop-disk.new.self) (g.N.Nodes.at c.crash.new.nodes) c.args.self.now c.crash.new.self c.args.place member c.stop-disk.result c.args.image). (crashes there.0 there.1).number)
     c.crash.ensures

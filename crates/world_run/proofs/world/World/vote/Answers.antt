@@ -30,7 +30,7 @@ returns-in-Some-clause-says c =
     let has = slice_get-map entry_of network c.in-Some.at ∙ ap (option_map entry_of) found.1 in
     IfOk-weaker c.vote_at.result _ _
     (λ ending said. λ at later.
-        Turned-same _ _ _ _ _ ending
-        (sym (ap (vote_turn w.outside.number (world_of at w later) c.args.from c.args.to c.args.kind c.args.view) (entry_numbered (world_of at w later) c.args.entry c.in-Some.at c.in-Some.ensures.some.1 ∙ has)))
-        (said (entry_of found.0) has at later))
+    Turned-same _ _ _ _ _ ending
+    (sym (ap (vote_turn w.outside.number (world_of at w later) c.args.from c.args.to c.args.kind c.args.view) (entry_numbered (world_of at w later) c.args.entry c.in-Some.at c.in-Some.ensures.some.1 ∙ has)))
+    (said (entry_of found.0) has at later))
     c.vote_at.ensures.says
