@@ -1,18 +1,16 @@
 -- Lemmas on the deeds of a step, and on what is kept of them where the node is stopped.
-use Rattle.std.proofs.Common.{◌≡◌, ℕ, zero, suc, ◌+◌, ◌-◌, ◌≤◌, Bool, true, false, cond, List, [], ◌∷◌, ◌++◌, length, map, take, drop, refl, sym, ap, ◌∙◌, arith, min, max, length-append}
+use Rattle.std.proofs.Common.{◌≡◌, ℕ, zero, suc, ◌+◌, ◌≤◌, cond, List, [], ◌∷◌, ◌++◌, length, map, take, drop, refl, sym, ap, ◌∙◌, arith, min, max, length-append}
 use Rattle.std.specs.List.{count_by, flat_map}
 use Rattle.std.proofs.Math.Seq.{take-append_seam}
 use Rattle.std.proofs.lemmas.List.{append-nil, append_assoc, drop-map, map-append}
 use Rattle.std.proofs.lemmas.List.Concat.{flat_map-append}
 use Rattle.std.proofs.lemmas.List.Sums.{sum_by-cons}
-use Rattle.ord_types.specs.declared.values.ReqId.{ReqId}
 use Rattle.safety_model.specs.Blocks.{Request}
 use Rattle.safety_model.specs.declared.fact.Fact.{Fact}
 use Rattle.safety_model.specs.declared.fact.Fact.TheVariants as fact_in
-use Rattle.node_model.specs.Deeds.{Deed, Accepts, Prepares, Delivers, Logged, deeds_of, fact_of, logged, unlogged}
+use Rattle.node_model.specs.Deeds.{Deed, Accepts, Prepares, Delivers, Logged, fact_of, logged, unlogged}
 use Rattle.node_model.specs.Restarts.{Returned, Returns, returned_returns, step}
 use Rattle.node_model.specs.Steps.{Event, Keys, Making}
-use Rattle.node_model.proofs.DeedLemmas.{deeds_are_facts}
 use Rattle.node_model.proofs.FollowLemmas.{AllFollow, Goings, seen_making, step_follows}
 use Rattle.world_model.specs.Worlds as worlds
 use Rattle.world_model.specs.Worlds.{least_made, made_before, made_of, requests_in, stored_in}

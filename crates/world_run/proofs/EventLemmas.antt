@@ -2,11 +2,8 @@
 use Rattle.std.proofs.Common.{◌≡◌, ℕ, true, List, get_or, Option, Some, None, Result, Ok, Err, IfOk, OnOk, take, sym, ap, ◌∙◌, subst}
 use Rattle.std.specs.Prelude.{slice_get}
 use Rattle.std.proofs.lemmas.Option.{same_Some}
-use Rattle.std.proofs.lemmas.Result.{IfOk-weaker}
 use Rattle.ord_types.specs.declared.lists.NoMemory.{NoMemory}
 use Rattle.gate_log.specs.Arms.{is_reached}
-use Rattle.gate_log.specs.Disk.{now}
-use Rattle.gate_log.specs.History.{states}
 use Rattle.gate_log.specs.declared.image.Image.TheVariants.{Keep}
 use Rattle.script_play.specs.declared.ending.Ending.{Ending}
 use Rattle.safety_model.specs.Blocks.{Config, Request}
@@ -17,7 +14,7 @@ use Rattle.node_model.specs.Steps.{Tick}
 use Rattle.world_model.specs.Cores.{core_setting}
 use Rattle.world_model.specs.Turns.{event_turn, tick_at}
 use Rattle.world_model.specs.Worlds.{keys_of, offer_to}
-use Rattle.bft_node.specs.Lodgings.{Becomes, IsKeptIn, IsOpenedOn, IsStepOf, Lodging, StepsAt, accepts_of}
+use Rattle.bft_node.specs.Lodgings.{IsKeptIn, IsOpenedOn, IsStepOf, Lodging, StepsAt, accepts_of}
 use Rattle.bft_node.specs.Running.{event_of, state_of}
 use Rattle.bft_node.specs.Standing.{DeedsKeepStanding, OpensAsModel, StepsHaveDeeds, StepsKeepStanding}
 use Rattle.bft_node.specs.declared.live.Event.{Event}

@@ -1,5 +1,5 @@
 -- Lemmas on what is done after a step of a node.
-use Rattle.std.proofs.Common.{◌≡◌, ℕ, Global, Vec, ◌≤◌, true, false, List, ◌++◌, length, map, get_or, Option, Some, Result, Ok, Err, IfOk, OnOk, refl, sym, ap, ◌∙◌, subst, arith}
+use Rattle.std.proofs.Common.{◌≡◌, ℕ, Global, Vec, ◌≤◌, false, List, ◌++◌, length, map, get_or, Option, Some, Result, Ok, Err, IfOk, OnOk, sym, ap, ◌∙◌, arith}
 use Rattle.std.specs.List.{flat_map}
 use Rattle.std.specs.Prelude.{slice_get, slice_set, string_bytes}
 use Rattle.ord_types.specs.declared.lists.NoMemory.{NoMemory}

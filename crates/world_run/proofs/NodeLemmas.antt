@@ -1,12 +1,11 @@
 -- Lemmas on the nodes of members, and on what holds of each member.
-use Rattle.std.proofs.Common.{◌≡◌, ℕ, zero, suc, false, List, [], ◌∷◌, length, map, get_or, set, Option, Some, refl, sym, ap, ◌∙◌, subst}
+use Rattle.std.proofs.Common.{◌≡◌, ℕ, zero, suc, false, List, [], ◌∷◌, Some, refl, sym, ap, ◌∙◌, subst}
 use Rattle.std.specs.List.{AllByRecursion}
 use Rattle.std.specs.Prelude.{slice_get, slice_set}
 use Rattle.std.specs.List.Sorted.{IsStrictlyIncreasing}
 use Rattle.std.proofs.lemmas.Option.{none-some, same_Some}
 use Rattle.ord_types.specs.Genesis.{IsGenesisConfig}
 use Rattle.safety_model.specs.Blocks.{Config}
-use Rattle.signer_edge.specs.Accepts.{Accepts}
 use Rattle.signer_edge.specs.Seals.{Seat}
 use Rattle.signer_edge.specs.Signing.{KeepsAccepted}
 use Rattle.node_model.specs.Restarts.{Returned}

@@ -1,9 +1,8 @@
 -- Lemmas on what a pool offers at a tick.
-use Rattle.std.proofs.Common.{◌≡◌, ℕ, ◌↔◌, get_or, Bool, true, false, cond, List, [], Option, Some, IsTrue, refl, sym, ap, ◌∙◌, subst}
+use Rattle.std.proofs.Common.{◌≡◌, ℕ, ◌↔◌, get_or, Bool, true, false, cond, [], Some, IsTrue, refl, sym, ap, ◌∙◌, subst}
 use Rattle.std.specs.Option.{option_map}
 use Rattle.std.specs.Prelude.{slice_get}
 use Rattle.std.proofs.lemmas.Option.{same_Some}
-use Rattle.safety_model.specs.Blocks.{Config}
 use Rattle.node_model.specs.Acts.{may_propose}
 use Rattle.node_model.specs.Restarts.{returned_ways}
 use Rattle.world_model.specs.Pools.{offer}

@@ -1,19 +1,16 @@
 -- Lemmas on what a seat of the box signs in a step of a node.
-use Rattle.std.proofs.Common.{◌≡◌, ℕ, true, false, List, [], ◌∷◌, ◌++◌, Result, Ok, Err, inl, inr, refl, sym, ap, ◌∙◌, subst}
+use Rattle.std.proofs.Common.{◌≡◌, ℕ, true, false, List, [], ◌∷◌, ◌++◌, Result, Ok, Err, inl, inr, sym, ap, ◌∙◌, subst}
 use Rattle.std.proofs.lemmas.List.{append-nil, append_assoc, map-append}
-use Rattle.gate_log.specs.declared.memory.MemDisk.{MemDisk}
 use Rattle.gate_log.specs.History.{states}
-use Rattle.signer_edge.specs.Accepts.{Accepts}
 use Rattle.signer_edge.specs.Seals.{Seat, SealsOne, is_sealed, next_sig, with_seal}
 use Rattle.signer_edge.specs.Signing.{KeepsAccepted}
 use Rattle.signer_edge.specs.declared.seals.Seal.{Seal}
 use Rattle.signer_edge.proofs.SealFacts.{is_sealed-grown}
-use Rattle.node_model.specs.Steps.{Keys}
 use Rattle.world_model.specs.Worlds.{keys_of, seals_of}
 use Rattle.bft_node.specs.Lodgings.{IsStepOf, accepts_of}
 use Rattle.bft_node.specs.NodeSteps.{TakesStep}
 use Rattle.bft_node.specs.Running.{event_of}
-use Rattle.bft_node.specs.Signings.{AreGiven, EndsAt, Grows, KeysFit, Signing, Signs, keys_after, statements_in}
+use Rattle.bft_node.specs.Signings.{AreGiven, EndsAt, Grows, KeysFit, Signing, keys_after, statements_in}
 use Rattle.bft_node.specs.declared.live.Event.{Event}
 use Rattle.bft_node.specs.declared.live.Out.{Out}
 use Rattle.bft_node.specs.declared.lodged.Lodged.{Lodged}

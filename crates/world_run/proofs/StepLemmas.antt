@@ -1,20 +1,19 @@
 -- Lemmas on a step of a node, and the world after it.
-use Rattle.std.proofs.Common.{◌≡◌, ℕ, Global, Vec, Bool, true, false, List, [], ◌∷◌, ◌++◌, map, Option, Some, None, Result, Ok, Err, refl, sym, ap, ◌∙◌, subst}
+use Rattle.std.proofs.Common.{◌≡◌, ℕ, Global, Vec, Bool, true, false, List, [], ◌∷◌, ◌++◌, map, Option, Some, Ok, refl, sym, ap, ◌∙◌, subst}
 use Rattle.std.specs.List.{flat_map}
 use Rattle.std.specs.Prelude.{slice_get, slice_set, string_bytes}
 use Rattle.std.proofs.lemmas.Option.{same_Some}
 use Rattle.safety_model.specs.Blocks.{Config, Request}
 use Rattle.safety_model.specs.declared.fact.Fact.{Fact}
-use Rattle.script_play.specs.Turns.{Turn, Turned}
+use Rattle.script_play.specs.Turns.{Turned}
 use Rattle.script_play.specs.declared.ending.Ending.{Ending}
-use Rattle.signer_edge.specs.Accepts.{Accepts}
 use Rattle.signer_edge.specs.Seals.{Seat, is_sealed}
 use Rattle.signer_edge.specs.Signing.{KeepsAccepted}
 use Rattle.signer_edge.specs.declared.boxes.SealSeat.{SealSeat}
 use Rattle.signer_edge.proofs.SealFacts.{is_sealed-grown}
 use Rattle.signer_edge.specs.declared.seals.Seal.{Seal}
 use Rattle.block_ledger.specs.Chains.{Entry, IsChain}
-use Rattle.node_model.specs.Deeds.{deeds_of, fact_of}
+use Rattle.node_model.specs.Deeds.{deeds_of}
 use Rattle.node_model.specs.Restarts.{Returned, returned_returns, step}
 use Rattle.node_model.specs.Steps as steps
 use Rattle.node_model.specs.Steps.{Making}
@@ -25,23 +24,23 @@ use Rattle.world_model.specs.Turns.{event_goes, event_turn, within_limit}
 use Rattle.world_model.specs.Worlds as worlds
 use Rattle.world_model.specs.Worlds.{Outcome, keys_of, requests_in, seals_of, sent_by, stored_in}
 use Rattle.bft_node.specs.Held.{Held, with_deeds}
-use Rattle.bft_node.specs.Lodgings.{Becomes, IsStepOf, Lodging, StepsAt, accepts_of}
+use Rattle.bft_node.specs.Lodgings.{Becomes, IsStepOf, Lodging, accepts_of}
 use Rattle.bft_node.specs.Making.{sent_of, text_of}
 use Rattle.bft_node.specs.NodeSteps.{step_from}
 use Rattle.bft_node.specs.Running.{event_of, state_of}
 use Rattle.bft_node.specs.Standing.{Stands, StepsKeepStanding}
-use Rattle.bft_node.specs.Stores.{config_of, held_of}
+use Rattle.bft_node.specs.Stores.{held_of}
 use Rattle.bft_node.specs.declared.live.Done.{Done}
 use Rattle.bft_node.specs.declared.live.Event.{Event}
 use Rattle.bft_node.specs.declared.live.Out.{Out}
 use Rattle.bft_node.specs.declared.lodged.Lodged.{Lodged}
 use Rattle.world_run.specs.Entries.{entry_of, posted}
 use Rattle.world_run.specs.Following.{Follows, network_after, world_with}
-use Rattle.world_run.specs.Going.{ByMoves, Plays}
+use Rattle.world_run.specs.Going.{Plays}
 use Rattle.world_run.specs.Mapped.{Model, world_of}
-use Rattle.world_run.specs.Members.{IsMember, IsSeated, node_of}
-use Rattle.world_run.specs.Moves.{Move, Takes, outcomes_of}
-use Rattle.world_run.specs.Sound.{IsSound, NoneArmed}
+use Rattle.world_run.specs.Members.{IsSeated, node_of}
+use Rattle.world_run.specs.Moves.{Takes, outcomes_of}
+use Rattle.world_run.specs.Sound.{IsSound}
 use Rattle.world_run.specs.declared.member.Member.{Member}
 use Rattle.world_run.specs.declared.member.Outside.{Outside}
 use Rattle.world_run.specs.declared.world.World.{World}
@@ -50,7 +49,7 @@ use Rattle.world_run.proofs.GoingLemmas.{Turned-same}
 use Rattle.world_run.proofs.ListLemmas.{with_node_becomes}
 use Rattle.world_run.proofs.MoveLemmas.{alike_self}
 use Rattle.world_run.proofs.NodeLemmas.{node_there, node_with, seat_of, sound_becomes, unarmed_at, unarmed_set}
-use Rattle.world_run.proofs.SealLemmas.{Signed, seat_after, signed_in}
+use Rattle.world_run.proofs.SealLemmas.{signed_in}
 
 -- what the step of the model makes
 abbrev pub made_by : List Seal → ℕ → Lodged → Event → Making Returned

@@ -1,10 +1,8 @@
 -- Lemmas on a node that is stopped, and the world after it.
-use Rattle.std.proofs.Common.{◌≡◌, ℕ, Global, Vec, ◌+◌, ◌<◌, ◌≤◌, Bool, true, false, List, [], ◌∷◌, ◌++◌, length, map, take, Option, Some, None, Result, Ok, Err, refl, sym, ap, ◌∙◌, subst, arith, length-append}
-use Rattle.std.specs.List.{flat_map}
+use Rattle.std.proofs.Common.{◌≡◌, ℕ, Global, Vec, ◌+◌, ◌≤◌, true, false, List, [], ◌∷◌, ◌++◌, length, map, take, Some, None, Result, Ok, Err, refl, sym, ap, ◌∙◌, subst, length-append}
 use Rattle.std.specs.Prelude.{slice_get, slice_set, string_bytes}
 use Rattle.std.proofs.lemmas.List.{append-nil, length-map, length-take-le}
-use Rattle.std.proofs.lemmas.Option.{same_Some}
-use Rattle.safety_model.specs.Blocks.{Config, Request}
+use Rattle.safety_model.specs.Blocks.{Config}
 use Rattle.safety_model.specs.declared.fact.Fact.{Fact}
 use Rattle.gate_log.specs.Arms.{is_reached}
 use Rattle.gate_log.specs.Disk.{now}
@@ -12,19 +10,18 @@ use Rattle.gate_log.specs.History.{states}
 use Rattle.gate_log.specs.declared.image.Image.{Image}
 use Rattle.gate_log.specs.declared.image.Image.TheVariants.{Keep}
 use Rattle.gate_log.specs.declared.memory.MemDisk.{MemDisk}
-use Rattle.script_play.specs.Turns.{Turn, Turned}
+use Rattle.script_play.specs.Turns.{Turned}
 use Rattle.signer_edge.specs.Accepts.{Accepts}
 use Rattle.signer_edge.specs.Seals.{Seat, is_sealed}
 use Rattle.signer_edge.specs.Signing.{KeepsAccepted}
 use Rattle.signer_edge.specs.declared.seals.Seal.{Seal}
 use Rattle.signer_edge.proofs.SealFacts.{is_sealed-grown}
-use Rattle.bft_wal.specs.Opening.{opens_as}
 use Rattle.bft_wal.specs.declared.record.WalRecord.{WalRecord}
 use Rattle.block_ledger.specs.Chains.{Entry, IsChain}
-use Rattle.block_ledger.specs.Reading.{Chain, Stored, stands_for}
+use Rattle.block_ledger.specs.Reading.{Chain}
 use Rattle.node_model.specs.Cores.{Core}
 use Rattle.node_model.specs.Deeds.{Deed, core_did, deeds_of, fact_of}
-use Rattle.node_model.specs.Restarts.{Returned, core_reopens, returned_returns, step}
+use Rattle.node_model.specs.Restarts.{Returned, core_reopens, returned_returns}
 use Rattle.node_model.specs.Steps as steps
 use Rattle.node_model.specs.Steps.{Keys, Making}
 use Rattle.node_model.proofs.DeedLemmas.{deeds_are_facts}
@@ -34,7 +31,7 @@ use Rattle.world_model.specs.Texts.{stopped_text}
 use Rattle.world_model.specs.Turns.{event_turn, stop_turn}
 use Rattle.world_model.specs.Worlds as worlds
 use Rattle.world_model.specs.Worlds.{Outcome, keys_of, made_of, seals_of, stored_in}
-use Rattle.bft_node.specs.Crashes.{IsCrash, Opens}
+use Rattle.bft_node.specs.Crashes.{Opens}
 use Rattle.bft_node.specs.Held.{Held, with_deeds}
 use Rattle.bft_node.specs.Laws.{KeptStoreOpens}
 use Rattle.bft_node.specs.Lodgings.{Becomes, IsOpenedOn, IsStepOf, Lodging, accepts_of}
@@ -44,16 +41,15 @@ use Rattle.bft_node.specs.Running.{event_of, state_of}
 use Rattle.bft_node.specs.Standing.{DeedsKeepStanding, OpensAsModel, Stands, StepsHaveDeeds}
 use Rattle.bft_node.specs.Stores.{config_of, held_of}
 use Rattle.bft_node.specs.declared.live.Event.{Event}
-use Rattle.bft_node.specs.declared.live.Out.{Out}
 use Rattle.bft_node.specs.declared.lodged.Lodged.{Lodged}
 use Rattle.bft_node.specs.declared.node_fault.NodeFault.TheVariants as fault_of
 use Rattle.world_run.specs.Entries.{entry_of}
 use Rattle.world_run.specs.Following.{Crashes, IsLeftOf}
 use Rattle.world_run.specs.Going.{Plays}
-use Rattle.world_run.specs.Mapped.{Model, world_of}
+use Rattle.world_run.specs.Mapped.{world_of}
 use Rattle.world_run.specs.Members.{IsSeated, node_of}
-use Rattle.world_run.specs.Moves.{Move, Reopens, StopsIn, StopsNow, deeds_held, outcomes_of, setup_of}
-use Rattle.world_run.specs.Sound.{IsSound, NoneArmed}
+use Rattle.world_run.specs.Moves.{Reopens, StopsIn, StopsNow, deeds_held, outcomes_of, setup_of}
+use Rattle.world_run.specs.Sound.{IsSound}
 use Rattle.world_run.specs.declared.member.Member.{Member}
 use Rattle.world_run.specs.declared.member.Outside.{Outside}
 use Rattle.world_run.specs.declared.network.Entry.{Entry as SentEntry}
@@ -63,7 +59,7 @@ use Rattle.world_run.proofs.GoingLemmas.{Turned-same}
 use Rattle.world_run.proofs.ListLemmas.{with_node_becomes}
 use Rattle.world_run.proofs.MoveLemmas.{alike_self}
 use Rattle.world_run.proofs.NodeLemmas.{node_there, node_with, seat_of, sound_becomes, unarmed_at, unarmed_set}
-use Rattle.world_run.proofs.SealLemmas.{seat_after, signed_in}
+use Rattle.world_run.proofs.SealLemmas.{signed_in}
 use Rattle.world_run.proofs.StepLemmas.{Between, made_by, same_model, same_node}
 
 -- WHAT AN OPENING HAS

@@ -1,11 +1,9 @@
 -- Lemmas on lines that stop, arm or start one node.
-use Rattle.std.proofs.Common.{◌≡◌, ℕ, Bool, true, false, Global, Vec, List, ◌++◌, map, get_or, Option, Some, None, Result, Ok, Err, OnOk, refl, sym, ap, ◌∙◌, subst}
-use Rattle.std.specs.List.Sorted.{IsStrictlyIncreasing}
+use Rattle.std.proofs.Common.{◌≡◌, ℕ, true, List, ◌++◌, map, get_or, Some, None, Result, Ok, Err, OnOk, sym, ap, ◌∙◌, subst}
 use Rattle.std.specs.Option.{option_map}
 use Rattle.std.specs.Prelude.{slice_get, slice_set, string_bytes}
 use Rattle.std.proofs.lemmas.Option.{same_Some}
 use Rattle.ord_types.specs.declared.lists.NoMemory.{NoMemory}
-use Rattle.safety_model.specs.Blocks.{Config}
 use Rattle.gate_log.specs.declared.image.Image.{Image}
 use Rattle.gate_log.specs.declared.memory.MemDisk.{MemDisk}
 use Rattle.script_play.specs.Turns.{Turned}
@@ -24,20 +22,16 @@ use Rattle.bft_node.specs.declared.lodged.Lodged.{Lodged}
 use Rattle.world_run.specs.Entries.{entry_of}
 use Rattle.world_run.specs.Following.{Crashes, world_with}
 use Rattle.world_run.specs.Going.{Plays}
-use Rattle.world_run.specs.Mapped.{Model, world_of}
+use Rattle.world_run.specs.Mapped.{world_of}
 use Rattle.world_run.specs.Members.{IsSeated, node_of}
 use Rattle.world_run.specs.Moves.{IsArmedAt}
-use Rattle.world_run.specs.Sound.{IsSound, KeepsNodes, NoneArmed}
-use Rattle.world_run.specs.Waiting.{waits_before}
+use Rattle.world_run.specs.Sound.{IsSound, KeepsNodes}
 use Rattle.world_run.specs.declared.member.Member.{Member}
-use Rattle.world_run.specs.declared.network.Entry.{Entry}
 use Rattle.world_run.specs.declared.world.World.{World}
 use Rattle.world_run.proofs.CrashLemmas.{crashes_behind, disk_of, read_is}
 use Rattle.world_run.proofs.ListLemmas.{HasPlace, ids_of, ids_set, with_node_becomes, with_node_set}
 use Rattle.world_run.proofs.NodeLemmas.{member_at, node_there, node_with, sound_becomes, unarmed_at, unarmed_set}
-use Rattle.world_run.proofs.StepLemmas.{same_model}
 use Rattle.world_run.proofs.StopLemmas.{stop_played, stop_sound, stopped_still}
-use Rattle.world_run.proofs.WaitingLemmas.{waits_set}
 
 -- A STOP BETWEEN EVENTS
 

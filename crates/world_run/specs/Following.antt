@@ -4,7 +4,6 @@ use Rattle.std.specs.List.{flat_map}
 use Rattle.safety_model.specs.Blocks.{Request}
 use Rattle.script_play.specs.Turns.{Turned}
 use Rattle.script_play.specs.declared.ending.Ending.{Ending}
-use Rattle.gate_log.specs.Arms.{is_reached}
 use Rattle.gate_log.specs.Disk.{MayLeave, now}
 use Rattle.gate_log.specs.History.{states}
 use Rattle.gate_log.specs.declared.image.Image.{Image}

@@ -1,9 +1,8 @@
-use Rattle.std.proofs.Common.{◌≡◌, ℕ, false, Global, Vec, Some, slice_get, slice_set, ap, sym, ◌∙◌, ◌++◌, arith, refl, subst}
+use Rattle.std.proofs.Common.{◌≡◌, ℕ, false, Global, Vec, Some, slice_get, slice_set, ap, ◌∙◌, ◌++◌, arith, refl, subst}
 use Rattle.std.specs.Prelude.{string_bytes}
 use Rattle.std.proofs.lemmas.Option.{slice_get_within}
 use Rattle.bft_node.specs.Lodgings.{Becomes, IsOpenedOn, accepts_of}
 use Rattle.world_model.specs.Texts.{stopped_text}
-use Rattle.world_run.specs.Following.{Crashes}
 use Rattle.world_run.specs.Moves.{setup_of}
 use Rattle.world_run.specs.declared.member.Member.{Member}
 use Rattle.world_run.specs.declared.member.Outside.{Outside}
