@@ -43,17 +43,17 @@ fn start(rt: HostRuntime) -> Result<(), Fail> {
     }
 }
 
-/// Where a line is malformed, or 0.
-fn place(alloc: Global, line: &[u8]) -> Result<u32, NoMemory> {
+/// Why a line stops, or a place of 0 where it doesn't.
+fn stop_of(alloc: Global, line: &[u8]) -> Result<Stop, NoMemory> {
     match meaning(alloc, line)? {
-        Meaning::Wrong(Stop::Malformed(place)) => Ok(place as u32),
-        _ => Ok(0),
+        Meaning::Wrong(stop) => Ok(stop),
+        _ => Ok(Stop::Malformed(0)),
     }
 }
 
 #[test]
 fn malformed(rt: HostRuntime) -> Result<(), Fail> {
-    for (line, at) in [
+    for (line, place) in [
         (b"stop".as_slice(), 5),
         (b"stop 1", 7),
         (b"stop 0 keep", 6),
@@ -70,7 +70,11 @@ fn malformed(rt: HostRuntime) -> Result<(), Fail> {
         (b"start x", 7),
         (b"start 1 keep", 9),
     ] {
-        assert_eq!(rt; place(rt.alloc(), line)?, at);
+        assert_eq!(rt;
+            stop_of(rt.alloc(), line)?,
+            Stop::Malformed(place),
+            "place {place}"
+        );
     }
     Ok(())
 }
