@@ -146,72 +146,79 @@ fn behind<'a>(text: &'a str, word: &str) -> Option<&'a str> {
     Some(rest)
 }
 
-/// How many blocks of one number are shown, one in each line, where all have one hash.
-fn agree(text: &str, number: u32, alloc: Global) -> Result<Option<u32>, Fail> {
+/// How many blocks of one number are shown, one in each line; it fails where two have different hashes.
+fn shown(text: &str, number: u32, alloc: Global) -> Result<usize, Fail> {
     let mut word = String::new(alloc);
     write!(word, " {number} config")?;
-    let mut first: Option<&str> = None;
-    let mut count = 0;
+    let mut hashes = Vec::new(alloc);
     for line in text.split('\n') {
         if let Some(rest) = behind(line, word.as_str()) {
             if let Some(hash) = behind(rest, " hash ") {
-                match first {
-                    None => first = Some(hash),
-                    Some(other) => {
-                        if other != hash {
-                            return Ok(None);
-                        }
-                    }
-                }
-                count += 1;
+                hashes.push(hash)?;
             }
         }
     }
-    Ok(Some(count))
+    let hashes = hashes.as_slice();
+    if let Some(first) = hashes.first() {
+        if hashes.iter().any(|hash| hash != first) {
+            return Err(Fail::new("two blocks of one number"));
+        }
+    }
+    Ok(hashes.len())
 }
 
-/// Each node of a script of three requests is stopped at each counted call of its disk, with this image, and started again. What
-/// the nodes show then agrees. Where a follower is stopped, the others deliver all three blocks; where the leader is, a block that
-/// one of them delivers is delivered by three.
-fn stops_agree(rt: HostRuntime, mode: &str) -> Result<(), Fail> {
+/// Whether the stop was reached in a script. The blocks that the nodes show agree; where a follower is stopped, the others show
+/// all three; where the leader is, a block that one of them has is had by three.
+fn stop_is_reached(alloc: Global, node: u32, call: u32, mode: &str) -> Result<bool, Fail> {
+    let script = stopping(alloc, node, call, mode)?;
+    let (status, sink) = played(alloc, script.as_bytes(), 0, 0)?;
+    if status != 0 {
+        return Err(Fail::new("another status"));
+    }
+    let text = str::from_utf8(sink.bytes())?;
+    let stopped = text.contains(" stopped ");
+    for number in 1..4 {
+        let count = shown(text, number, alloc)?;
+        let few = count < 3 && !(node == 1 && count == 0);
+        if few || (!stopped && count != 4) {
+            return Err(Fail::new("too few blocks"));
+        }
+    }
+    Ok(stopped)
+}
+
+/// Each node of a script of three requests is stopped at each counted call of its disk, with this image, and started again. The
+/// answer is at how many calls the last one was.
+fn stops_agree(alloc: Global, mode: &str) -> Result<u32, Fail> {
+    let mut stops = 0;
     for node in 1..5 {
-        let mut call = 1;
-        loop {
-            let script = stopping(rt.alloc(), node, call, mode)?;
-            let (status, sink) = played(rt.alloc(), script.as_bytes(), 0, 0)?;
-            assert_eq!(rt; status, 0);
-            let text = str::from_utf8(sink.bytes()).unwrap();
-            let stopped = text.contains(" stopped ");
-            for number in 1..4 {
-                let shown = agree(text, number, rt.alloc())?;
-                assert!(rt; shown.is_some());
-                let count = shown.unwrap_or(0);
-                assert!(rt; count >= 3 || node == 1 && count == 0);
-                assert!(rt; stopped || count == 4);
-            }
-            if !stopped {
+        for call in 1..100 {
+            if !stop_is_reached(alloc, node, call, mode)? {
                 break;
             }
-            // the node runs again at the end
-            assert!(rt; !text.contains("refused stopped\nnode"));
-            call += 1;
+            stops = call;
         }
-        assert!(rt; call > 10);
+        if stops < 20 {
+            return Err(Fail::new("too few stops"));
+        }
     }
-    Ok(())
+    Ok(stops)
 }
 
 #[test]
 fn stopped_and_kept(rt: HostRuntime) -> Result<(), Fail> {
-    stops_agree(rt, "keep")
+    assert!(rt; stops_agree(rt.alloc(), "keep")? < 99);
+    Ok(())
 }
 
 #[test]
 fn stopped_and_dropped(rt: HostRuntime) -> Result<(), Fail> {
-    stops_agree(rt, "drop")
+    assert!(rt; stops_agree(rt.alloc(), "drop")? < 99);
+    Ok(())
 }
 
 #[test]
 fn stopped_and_filled(rt: HostRuntime) -> Result<(), Fail> {
-    stops_agree(rt, "fill=ff")
+    assert!(rt; stops_agree(rt.alloc(), "fill=ff")? < 99);
+    Ok(())
 }
