@@ -14,11 +14,11 @@ use Rattle.signer_edge.specs.Accepts.{Accepts}
 use Rattle.bft_wire.specs.declared.message.Message.{Message}
 use Rattle.block_ledger.specs.Chains.{Entry, IsChain}
 use Rattle.block_ledger.specs.Places.{place_after}
-use Rattle.node_model.specs.declared.act.Act.{Act}
-use Rattle.node_model.specs.declared.act.Act.TheVariants as act_of
-use Rattle.node_model.specs.Acts.{View}
-use Rattle.node_model.specs.declared.letter.Letter.{Letter}
-use Rattle.node_model.specs.Answers.{after_act, after_vote, at_place, is_new, is_same_config, kept_after, vote_answer}
+use Rattle.view_model.specs.declared.act.Act.{Act}
+use Rattle.view_model.specs.declared.act.Act.TheVariants as act_of
+use Rattle.view_model.specs.Acts.{View}
+use Rattle.view_model.specs.declared.letter.Letter.{Letter}
+use Rattle.view_model.specs.Answers.{after_act, after_vote, at_place, is_new, is_same_config, kept_after, vote_answer}
 use Rattle.node_model.specs.Deeds.{Deed, Delivers, acceptance}
 use Rattle.node_model.specs.Cores.{next_place}
 use Rattle.node_model.specs.Steps as steps

@@ -12,14 +12,14 @@ use Rattle.bft_wire.specs.declared.message.Message.TheVariants as wire
 use Rattle.block_ledger.specs.Chains.{Entry, IsChain}
 use Rattle.block_ledger.specs.Places.{place_after}
 use Rattle.block_ledger.proofs.Linking.{chain_stays}
-use Rattle.node_model.specs.declared.act.Act.{Act}
-use Rattle.node_model.specs.declared.act.Act.TheVariants as act_of
-use Rattle.node_model.specs.declared.letter.VoteMessage.TheVariants as vote_of
-use Rattle.node_model.specs.declared.letter.Letter.{Letter}
-use Rattle.node_model.specs.Acts.{View, due}
-use Rattle.node_model.specs.Answers.{after_act, at_place, kept_after, vote_answer}
+use Rattle.view_model.specs.declared.act.Act.{Act}
+use Rattle.view_model.specs.declared.act.Act.TheVariants as act_of
+use Rattle.view_model.specs.declared.letter.VoteMessage.TheVariants as vote_of
+use Rattle.view_model.specs.declared.letter.Letter.{Letter}
+use Rattle.view_model.specs.Acts.{View, due}
+use Rattle.view_model.specs.Answers.{after_act, at_place, kept_after, vote_answer}
 use Rattle.node_model.specs.Deeds.{Deed, preparation}
-use Rattle.node_model.specs.Letters.{Commit}
+use Rattle.view_model.specs.Letters.{Commit}
 use Rattle.node_model.specs.Steps.{Keys, commit_message, makes_prepared, to_all}
 use Rattle.view_core.specs.Places.{StandsAt}
 use Rattle.bft_node.specs.Commits.{Commits, SignsAtMost, commit_at, own_letter, statement_at}

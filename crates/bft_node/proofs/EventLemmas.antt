@@ -13,16 +13,16 @@ use Rattle.bft_wire.specs.declared.message.Message.{Message}
 use Rattle.bft_wire.specs.declared.message.Message.TheVariants as wire
 use Rattle.block_ledger.specs.Chains.{IsChain}
 use Rattle.block_ledger.specs.Places.{place_after}
-use Rattle.node_model.specs.declared.act.Act.{Act}
-use Rattle.node_model.specs.declared.act.Act.TheVariants as act_of
-use Rattle.node_model.specs.declared.letter.Letter.{Letter}
-use Rattle.node_model.specs.declared.letter.VoteMessage.{VoteMessage}
-use Rattle.node_model.specs.declared.letter.VoteMessage.TheVariants as vote_of
-use Rattle.node_model.specs.Acts.{View, accept_act, due, proposed}
-use Rattle.node_model.specs.Answers.{accepts_nothing, act_or, after_act, after_prepare, after_propose, after_vote, at_place, is_new, kept_after, prepare_answer, propose_answer, reason_or, vote_answer}
+use Rattle.view_model.specs.declared.act.Act.{Act}
+use Rattle.view_model.specs.declared.act.Act.TheVariants as act_of
+use Rattle.view_model.specs.declared.letter.Letter.{Letter}
+use Rattle.view_model.specs.declared.letter.VoteMessage.{VoteMessage}
+use Rattle.view_model.specs.declared.letter.VoteMessage.TheVariants as vote_of
+use Rattle.view_model.specs.Acts.{View, accept_act, due, proposed}
+use Rattle.view_model.specs.Answers.{accepts_nothing, act_or, after_act, after_prepare, after_propose, after_vote, at_place, is_new, kept_after, prepare_answer, propose_answer, reason_or, vote_answer}
 use Rattle.node_model.specs.Cores.{Core, core_comes, core_hears}
 use Rattle.node_model.specs.Deeds.{unlogged}
-use Rattle.node_model.specs.Letters.{Commit, PrePrepare, Prepare, letter_in, vote_in}
+use Rattle.view_model.specs.Letters.{Commit, PrePrepare, Prepare, letter_in, vote_in}
 use Rattle.node_model.specs.Restarts.{found_after}
 use Rattle.node_model.specs.Steps as steps
 use Rattle.node_model.specs.Steps.{FromMember, begins, makes_accepted, preprepare_message, propose_round}

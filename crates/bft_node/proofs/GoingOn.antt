@@ -18,8 +18,8 @@ use Rattle.bft_wal.specs.declared.record.WalRecord.TheVariants.{Accepted, Prepar
 use Rattle.block_ledger.specs.Chains.{Entry}
 use Rattle.block_ledger.specs.Places.{next_place, place_after}
 use Rattle.block_ledger.proofs.Placing.{begins_at_first, moves_by_one}
-use Rattle.node_model.specs.Acts.{View}
-use Rattle.node_model.specs.Answers.{at_place, fresh, raised}
+use Rattle.view_model.specs.Acts.{View}
+use Rattle.view_model.specs.Answers.{at_place, fresh, raised}
 use Rattle.node_model.specs.Cores.{Core, next_place as place_behind}
 use Rattle.node_model.specs.Deeds.{Deed, Accepts, Prepares, Delivers, core_did, core_does, deeds_of}
 use Rattle.node_model.specs.Restarts.{Returned, core_reopens, found_in, returned_returns}

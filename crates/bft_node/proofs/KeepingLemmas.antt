@@ -16,8 +16,8 @@ use Rattle.signer_edge.specs.Signing.{KeepsAccepted}
 use Rattle.block_ledger.specs.Chains.{Entry, IsChain}
 use Rattle.block_ledger.specs.Places.{place_after}
 use Rattle.block_ledger.proofs.Linking.{chain_stays}
-use Rattle.node_model.specs.declared.act.Act.{Act}
-use Rattle.node_model.specs.Acts.{View}
+use Rattle.view_model.specs.declared.act.Act.{Act}
+use Rattle.view_model.specs.Acts.{View}
 use Rattle.node_model.specs.Deeds.{Deed, Accepts, Prepares, acceptance, fact_of, preparation}
 use Rattle.view_core.specs.Places.{IsPlace, StandsAt}
 use Rattle.bft_node.specs.Crashes.{Image, IsCrash, Opens, Within}

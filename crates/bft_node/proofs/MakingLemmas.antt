@@ -15,10 +15,10 @@ use Rattle.signer_edge.specs.Signing.{KeepsAccepted}
 use Rattle.block_ledger.specs.Chains.{IsChain}
 use Rattle.block_ledger.specs.Places.{place_after}
 use Rattle.block_ledger.proofs.Linking.{chain_stays}
-use Rattle.node_model.specs.declared.act.Act.{Act}
-use Rattle.node_model.specs.declared.act.Act.TheVariants as act_of
-use Rattle.node_model.specs.Acts.{View, due}
-use Rattle.node_model.specs.Answers.{after_act, after_due, at_place, due_answer}
+use Rattle.view_model.specs.declared.act.Act.{Act}
+use Rattle.view_model.specs.declared.act.Act.TheVariants as act_of
+use Rattle.view_model.specs.Acts.{View, due}
+use Rattle.view_model.specs.Answers.{after_act, after_due, at_place, due_answer}
 use Rattle.node_model.specs.Deeds.{Deed}
 use Rattle.view_core.specs.Places.{StandsAt}
 use Rattle.bft_node.specs.Crashes.{Image, IsCrash, Opens, Within}

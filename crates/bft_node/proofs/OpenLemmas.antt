@@ -12,7 +12,7 @@ use Rattle.bft_wal.specs.Fold.{durable_of}
 use Rattle.bft_wal.specs.declared.durable.Durable.{Durable}
 use Rattle.block_ledger.specs.Chains.{IsGenesis}
 use Rattle.block_ledger.proofs.Opened.{one_config}
-use Rattle.node_model.specs.Acts.{View}
+use Rattle.view_model.specs.Acts.{View}
 use Rattle.node_model.specs.Restarts.{Returned, found_in}
 use Rattle.view_core.specs.Places.{IsPlace}
 use Rattle.bft_node.specs.Returning.{opened, view_at}

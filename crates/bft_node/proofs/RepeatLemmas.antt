@@ -13,10 +13,10 @@ use Rattle.bft_wire.specs.declared.message.Message.TheVariants as wire
 use Rattle.block_ledger.specs.Chains.{IsChain}
 use Rattle.block_ledger.specs.Places.{place_after}
 use Rattle.block_ledger.proofs.Linking.{chain_stays}
-use Rattle.node_model.specs.declared.act.Act.{Act}
-use Rattle.node_model.specs.declared.act.Act.TheVariants as act_of
-use Rattle.node_model.specs.Acts.{View}
-use Rattle.node_model.specs.Answers.{after_act}
+use Rattle.view_model.specs.declared.act.Act.{Act}
+use Rattle.view_model.specs.declared.act.Act.TheVariants as act_of
+use Rattle.view_model.specs.Acts.{View}
+use Rattle.view_model.specs.Answers.{after_act}
 use Rattle.node_model.specs.Deeds.{Deed}
 use Rattle.node_model.specs.Restarts.{Found, current, is_current, repeat_round, repeated_votes, repeats_commit, repeats_if, repeats_votes}
 use Rattle.node_model.specs.Steps as steps

@@ -5,12 +5,12 @@ use Rattle.ord_types.specs.declared.values.Cert.{Cert}
 use Rattle.gate_log.specs.Disk.{State}
 use Rattle.safety_model.specs.Blocks.{Block}
 use Rattle.signer_edge.specs.Accepts.{Accepts}
-use Rattle.node_model.specs.declared.letter.VoteMessage.TheVariants as message_of
-use Rattle.node_model.specs.declared.letter.Letter.{Letter}
-use Rattle.node_model.specs.declared.act.Act.{Act}
-use Rattle.node_model.specs.declared.act.Act.TheVariants as act_of
-use Rattle.node_model.specs.Acts.{View, accept_act, acceptance_due, deliver_act, delivery_due, first_of, preparation_due, prepare_act}
-use Rattle.node_model.specs.Answers.{after_act}
+use Rattle.view_model.specs.declared.letter.VoteMessage.TheVariants as message_of
+use Rattle.view_model.specs.declared.letter.Letter.{Letter}
+use Rattle.view_model.specs.declared.act.Act.{Act}
+use Rattle.view_model.specs.declared.act.Act.TheVariants as act_of
+use Rattle.view_model.specs.Acts.{View, accept_act, acceptance_due, deliver_act, delivery_due, first_of, preparation_due, prepare_act}
+use Rattle.view_model.specs.Answers.{after_act}
 use Rattle.node_model.specs.Steps.{Keys, accept_round, commit_message, deliver_round, makes_accepted, makes_delivered, makes_prepared, prepare_round, rounds, votes}
 use Rattle.bft_node.specs.Making.{Around, Before, Ends, GoesOn, HasNoneToAccept, IsDelivery, IsDue, IsStopped, Makes, Step, Tells, accepted_in, act_in, is_delivering, node_ways, place_in, prepared_in, view_in}
 use Rattle.bft_node.specs.declared.live.Running.{Running}

@@ -17,7 +17,7 @@ use Rattle.ord_types.specs.declared.values.Vote.{Vote}
 use Rattle.bft_wal.specs.Fold.{acceptance_in, block_of, durable_of, entered_view, greatest, has_digest, in_front, is_accepted, is_below, left_view, newest, newest_below, newest_prepared, last_block, newest_vote, newest_votes, preparation_in, view_accepted, view_voted, with_block, with_its}
 use Rattle.bft_wal.specs.declared.record.WalRecord.{WalRecord}
 use Rattle.bft_wal.specs.declared.record.WalRecord.TheVariants.{Accepted, Prepared}
-use Rattle.node_model.specs.Acts.{View}
+use Rattle.view_model.specs.Acts.{View}
 use Rattle.bft_node.specs.Returning.{accepted_in, is_prepared_in, view_at}
 use Rattle.bft_node.specs.Standing.{IsBacked, NothingAhead}
 use Rattle.bft_node.proofs.Folds.{all_more, all_to, any_last, filter_all, newest_has, newest_last}

@@ -9,16 +9,16 @@ use Rattle.ord_types.specs.declared.values.Place.{Place}
 use Rattle.signer_edge.specs.Accepts.{Accepts as Accepted}
 use Rattle.signer_edge.specs.Statements.{commit_text}
 use Rattle.bft_wire.specs.declared.message.Message.{Message}
-use Rattle.node_model.specs.Acts.{View, acceptance_due, digest_if, preparation_due, quorum_of, prepares}
-use Rattle.node_model.specs.Answers.{after_act, is_new, keep, kept_after}
+use Rattle.view_model.specs.Acts.{View, acceptance_due, digest_if, preparation_due, quorum_of, prepares}
+use Rattle.view_model.specs.Answers.{after_act, is_new, keep, kept_after}
 use Rattle.node_model.specs.Cores.{Core, core_accepts, core_comes, core_delivers, core_hears, core_prepares}
 use Rattle.node_model.specs.Deeds.{Deed, Accepts, Prepares, Delivers, Logged, acceptance, core_did, core_does, logged, logged_ways, preparation, unlogged}
-use Rattle.node_model.specs.Letters.{Commit, letter_in}
-use Rattle.node_model.specs.declared.letter.Letter.{Letter}
+use Rattle.view_model.specs.Letters.{Commit, letter_in}
+use Rattle.view_model.specs.declared.letter.Letter.{Letter}
 use Rattle.node_model.specs.Restarts.{Found, Returned, core_reopens, repeat_round, repeats_if, repeats_on, repeats_votes, returned_returns, returned_ways, step}
 use Rattle.node_model.specs.Steps.{Event, Tick, FromMember, Keys, Making, Ways, accept_round, begins, commit_message, deliver_round, makes_accepted, makes_delivered, makes_prepared, own_rule, prepare_round, preprepare_message, propose_round, rounds, votes}
-use Rattle.node_model.specs.declared.act.Act.TheVariants as act_of
-use Rattle.node_model.specs.declared.letter.VoteMessage.TheVariants as vote_of
+use Rattle.view_model.specs.declared.act.Act.TheVariants as act_of
+use Rattle.view_model.specs.declared.letter.VoteMessage.TheVariants as vote_of
 use Rattle.node_model.proofs.DeedLemmas.{does_reopened}
 use Rattle.bft_node.specs.Standing.{AreDeedsOf, IsDeedOf, IsThere, StepsHaveDeeds}
 

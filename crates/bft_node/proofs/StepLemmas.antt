@@ -6,8 +6,8 @@ use Rattle.gate_log.specs.Disk.{State, now}
 use Rattle.safety_model.specs.Blocks.{Block, Request}
 use Rattle.signer_edge.specs.Accepts.{Accepts}
 use Rattle.block_ledger.proofs.Placing.{height_of_place}
-use Rattle.node_model.specs.declared.act.Act.TheVariants as act_of
-use Rattle.node_model.specs.Acts.{View, proposed}
+use Rattle.view_model.specs.declared.act.Act.TheVariants as act_of
+use Rattle.view_model.specs.Acts.{View, proposed}
 use Rattle.node_model.specs.Deeds.{Deed, unlogged}
 use Rattle.node_model.specs.Restarts.{Found, Returned, current, repeat_round, step}
 use Rattle.node_model.specs.Steps as steps

@@ -8,13 +8,13 @@ use Rattle.ord_types.specs.declared.values.Cert.{Cert}
 use Rattle.safety_model.specs.Blocks.{Block}
 use Rattle.signer_edge.specs.Accepts.{Accepts}
 use Rattle.bft_wire.specs.declared.reason.Reason.{Reason}
-use Rattle.node_model.specs.declared.letter.VoteMessage.TheVariants as message_of
-use Rattle.node_model.specs.Letters.{Prepare}
-use Rattle.node_model.specs.declared.letter.Letter.{Letter}
-use Rattle.node_model.specs.declared.act.Act.{Act}
-use Rattle.node_model.specs.declared.act.Act.TheVariants as act_of
-use Rattle.node_model.specs.Acts.{View, accept_act, acceptance_due, deliver_act, delivery_due, digest_if, due, first_of, is_inside_view, is_voting, preparation_due, prepare_act}
-use Rattle.node_model.specs.Answers.{accepts_nothing, act_or, after_act, after_prepare, at_place, due_answer, fresh, is_new, is_same_config, kept_after, kept_or, prepare_answer, reason_or, unplaced, vote_answer}
+use Rattle.view_model.specs.declared.letter.VoteMessage.TheVariants as message_of
+use Rattle.view_model.specs.Letters.{Prepare}
+use Rattle.view_model.specs.declared.letter.Letter.{Letter}
+use Rattle.view_model.specs.declared.act.Act.{Act}
+use Rattle.view_model.specs.declared.act.Act.TheVariants as act_of
+use Rattle.view_model.specs.Acts.{View, accept_act, acceptance_due, deliver_act, delivery_due, digest_if, due, first_of, is_inside_view, is_voting, preparation_due, prepare_act}
+use Rattle.view_model.specs.Answers.{accepts_nothing, act_or, after_act, after_prepare, at_place, due_answer, fresh, is_new, is_same_config, kept_after, kept_or, prepare_answer, reason_or, unplaced, vote_answer}
 use Rattle.bft_node.specs.Making.{act_in}
 use Rattle.view_core.specs.Places.{StandsAt}
 

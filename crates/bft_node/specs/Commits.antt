@@ -5,12 +5,12 @@ use Rattle.ord_types.specs.declared.values.Sig.{Sig}
 use Rattle.signer_edge.specs.Accepts.{Accepts}
 use Rattle.signer_edge.specs.Statements.{commit_text}
 use Rattle.bft_wire.specs.declared.message.Message.TheVariants as wire
-use Rattle.node_model.specs.declared.act.Act.{Act}
-use Rattle.node_model.specs.declared.letter.VoteMessage.TheVariants as vote_of
-use Rattle.node_model.specs.declared.letter.Letter.{Letter}
-use Rattle.node_model.specs.Acts.{View}
-use Rattle.node_model.specs.Answers.{after_vote, at_place, vote_answer}
-use Rattle.node_model.specs.Letters.{Commit}
+use Rattle.view_model.specs.declared.act.Act.{Act}
+use Rattle.view_model.specs.declared.letter.VoteMessage.TheVariants as vote_of
+use Rattle.view_model.specs.declared.letter.Letter.{Letter}
+use Rattle.view_model.specs.Acts.{View}
+use Rattle.view_model.specs.Answers.{after_vote, at_place, vote_answer}
+use Rattle.view_model.specs.Letters.{Commit}
 use Rattle.node_model.specs.Steps.{commit_message, to_all}
 use Rattle.bft_node.specs.Making.{IsFront, sent_of, text_of}
 use Rattle.bft_node.specs.Running.{place_of}

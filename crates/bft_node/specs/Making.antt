@@ -12,10 +12,10 @@ use Rattle.signer_edge.specs.Signing.{KeepsAccepted}
 use Rattle.block_ledger.specs.Chains.{IsChain}
 use Rattle.bft_wire.specs.Spelling.{message_text}
 use Rattle.chan_config.specs.Blocks.{change_in}
-use Rattle.node_model.specs.declared.act.Act.{Act}
-use Rattle.node_model.specs.declared.act.Act.TheVariants as act_of
-use Rattle.node_model.specs.Acts.{View, acceptance_due, preparation_due, due, deliver_act, delivery_due}
-use Rattle.node_model.specs.Answers.{after_act}
+use Rattle.view_model.specs.declared.act.Act.{Act}
+use Rattle.view_model.specs.declared.act.Act.TheVariants as act_of
+use Rattle.view_model.specs.Acts.{View, acceptance_due, preparation_due, due, deliver_act, delivery_due}
+use Rattle.view_model.specs.Answers.{after_act}
 use Rattle.node_model.specs.Deeds.{Deed, Accepts as Accepted, Prepares, Delivers, Logged, logged}
 use Rattle.node_model.specs.Restarts.{Returned, Returns, returned_returns}
 use Rattle.node_model.specs.Steps as steps

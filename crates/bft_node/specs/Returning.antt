@@ -7,7 +7,7 @@ use Rattle.ord_types.specs.declared.values.Vote.{Vote}
 use Rattle.bft_wal.specs.Fold.{durable_of}
 use Rattle.bft_wal.specs.declared.durable.Durable.{Durable}
 use Rattle.block_ledger.specs.Places.{place_after}
-use Rattle.node_model.specs.Acts.{View}
+use Rattle.view_model.specs.Acts.{View}
 use Rattle.node_model.specs.Cores.{Core}
 use Rattle.node_model.specs.Restarts.{Returned, found_in}
 use Rattle.bft_node.specs.Held.{Held}

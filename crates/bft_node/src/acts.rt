@@ -2,7 +2,7 @@
 ghost use Rattle.std.specs.Prelude.{◌≡◌, ◌≤◌, Bool, List as Items, [], ◌∷◌, ◌++◌, IfErr, IfOk, OnOk};
 ghost use Rattle.ord_types.specs.Lengths.{FitsSig};
 ghost use Rattle.gate_log.specs.Disk.{State};
-ghost use Rattle.node_model.specs.declared.act.Act.TheVariants as act_of;
+ghost use Rattle.view_model.specs.declared.act.Act.TheVariants as act_of;
 ghost use Rattle.node_model.specs.Steps.{makes_accepted, makes_delivered, makes_prepared, rounds, votes};
 ghost use Rattle.view_core.specs.Fits.{FitsAct};
 ghost use Rattle.bft_node.specs.Commits.{Commits, SignsAtMost, commit_at, statement_at};

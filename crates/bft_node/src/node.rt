@@ -9,7 +9,7 @@ ghost use Rattle.gate_log.specs.Disk.{now};
 ghost use Rattle.gate_log.specs.Runs.{Went};
 ghost use Rattle.bft_wal.specs.Fold.{durable_of};
 ghost use Rattle.block_ledger.specs.Chains.{IsChain};
-ghost use Rattle.node_model.specs.Acts.{may_propose};
+ghost use Rattle.view_model.specs.Acts.{may_propose};
 ghost use Rattle.node_model.specs.Restarts.{found_in};
 ghost use Rattle.node_model.specs.Steps.{Keys};
 ghost use Rattle.view_core.specs.Places.{IsPlace};

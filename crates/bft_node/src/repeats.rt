@@ -3,8 +3,8 @@ ghost use Rattle.std.specs.Prelude.{◌≡◌, ◌≤◌, ◌==◌, Bool, IfErr,
 ghost use Rattle.std.specs.List.{flat_map};
 ghost use Rattle.ord_types.specs.Lengths.{FitsBlock};
 ghost use Rattle.gate_log.specs.Disk.{State};
-ghost use Rattle.node_model.specs.declared.act.Act.TheVariants as act_of;
-ghost use Rattle.node_model.specs.Leading.{leader};
+ghost use Rattle.view_model.specs.declared.act.Act.TheVariants as act_of;
+ghost use Rattle.view_model.specs.Leading.{leader};
 ghost use Rattle.node_model.specs.Restarts.{Found as FoundOnce, current, is_current, repeat_round, repeated_votes, repeats_commit};
 ghost use Rattle.node_model.specs.Steps.{to_all};
 ghost use Rattle.bft_node.specs.Making.{Before, GoesOn, IsStopped, Makes, Step, around, node_returns, place_in, sent_of, text_of, view_in};

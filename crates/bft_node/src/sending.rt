@@ -3,7 +3,7 @@ ghost use Rattle.std.specs.Prelude.{◌≡◌, ◌++◌, OnOk, IfOk, IfSome, map
 ghost use Rattle.std.specs.List.{flat_map};
 ghost use Rattle.ord_types.specs.Lengths.{FitsBlock, FitsCert};
 ghost use Rattle.bft_wire.specs.Lengths.{FitsMessage};
-ghost use Rattle.node_model.specs.Acts.{carried_cert};
+ghost use Rattle.view_model.specs.Acts.{carried_cert};
 ghost use Rattle.node_model.specs.Restarts.{repeated_votes};
 ghost use Rattle.node_model.specs.Steps.{prepare_message, preprepare_message, to_all};
 ghost use Rattle.view_core.specs.Places.{IsPlace};

@@ -1,21 +1,21 @@
 -- The reasons that answers give.
 use Rattle.std.proofs.Common.{◌≡◌, ℕ, Bool, true, false, cond, [], ◌∷◌, ◌++◌, Option, Some, None, refl, sym, ap, ◌∙◌, ◌==◌, ◌+◌, ◌≤◌, ◌||◌, inl, inr, arith, IfOk, OnOk, Result, Ok, Err, ◌&&◌, not, subst}
 use Rattle.std.proofs.lemmas.Bool.{cases_Bool, cases_eq, or_left, or_right, or_parts, eq-eqb, not-false, not-true, ltb-false, and_from, and_parts, and_right, not_from_true, not_from_false}
-use Rattle.node_model.specs.declared.letter.VoteMessage.{VoteMessage}
-use Rattle.node_model.specs.declared.letter.VoteMessage.TheVariants as message_of
+use Rattle.view_model.specs.declared.letter.VoteMessage.{VoteMessage}
+use Rattle.view_model.specs.declared.letter.VoteMessage.TheVariants as message_of
 use Rattle.bft_wire.specs.declared.message.PrePrepare.{PrePrepare}
 use Rattle.bft_wire.specs.declared.reason.Reason.{Reason}
 use Rattle.bft_wire.specs.declared.reason.Reason.TheVariants as reason
 use Rattle.ord_types.specs.declared.values.Place.{Place}
 use Rattle.signer_edge.specs.Accepts.{Accepts}
-use Rattle.node_model.specs.declared.letter.Letter.{Letter}
+use Rattle.view_model.specs.declared.letter.Letter.{Letter}
 use Rattle.std.specs.Prelude.{is_none, unwrap_or}
-use Rattle.node_model.specs.declared.act.Act.{Act}
-use Rattle.node_model.specs.declared.act.Act.TheVariants as act_of
-use Rattle.node_model.specs.Acts.{View, due, preparation_due, prepare_act}
-use Rattle.node_model.specs.Letters.{config_in, number_in, view_in}
+use Rattle.view_model.specs.declared.act.Act.{Act}
+use Rattle.view_model.specs.declared.act.Act.TheVariants as act_of
+use Rattle.view_model.specs.Acts.{View, due, preparation_due, prepare_act}
+use Rattle.view_model.specs.Letters.{config_in, number_in, view_in}
 use Rattle.ord_types.specs.Members.{is_in, is_raft}
-use Rattle.node_model.specs.Answers.{Reasons, accepts_nothing, act_or, after_act, after_told, first_reason, is_new, is_repeat, is_signed, keep, kept_after, kept_or, message_reasons, prepare_answer, proposal_reasons, reason_or, stands_outside, vote_answer}
+use Rattle.view_model.specs.Answers.{Reasons, accepts_nothing, act_or, after_act, after_told, first_reason, is_new, is_repeat, is_signed, keep, kept_after, kept_or, message_reasons, prepare_answer, proposal_reasons, reason_or, stands_outside, vote_answer}
 use Rattle.view_core.specs.Held.{is_held, is_short}
 use Rattle.view_core.specs.Places.{StandsAt}
 

@@ -7,8 +7,8 @@ use Rattle.ord_types.specs.declared.values.Cert.{Cert}
 use Rattle.ord_types.specs.declared.values.Place.{Place}
 use Rattle.ord_types.specs.declared.values.Sig.{Sig}
 use Rattle.safety_model.specs.Blocks.{Block}
-use Rattle.node_model.specs.Acts.{View, quorum_of, commits, certificate, delivery_due}
-use Rattle.node_model.specs.Checks.{is_next_block}
+use Rattle.view_model.specs.Acts.{View, quorum_of, commits, certificate, delivery_due}
+use Rattle.view_model.specs.Checks.{is_next_block}
 
 -- the Commits are enough, and the block is the next one
 abbrev pub may_deliver : Place → View → Block → List ℕ → Bool

@@ -18,17 +18,17 @@ use Rattle.ord_types.specs.declared.values.Request.{Request}
 use Rattle.ord_types.specs.declared.values.Sig.{Sig}
 use Rattle.chan_config.proofs.Fitting.{next_fits}
 use Rattle.signer_edge.specs.Accepts.{Accepts}
-use Rattle.node_model.specs.Acts.{View, acceptance_due, accept_act, block_if, carried_cert, certificate, commits, deliver_act, delivery_due, delivery_if, due, first_of, is_acceptable, is_inside_view, is_voting, kept_proposal, kept_sig, may_propose, preparation_due, prepare_act, proposal, proposed, quorum_of, sig_in, sig_of}
-use Rattle.node_model.specs.Answers.{accepts_nothing, act_or, at_place, due_answer, first_reason, fresh, is_near, is_new, is_same_config, keep, kept_after, kept_or, message_reasons, offer_reasons, own_reasons, prepare_answer, propose_answer, raised, reason_or, stands_outside, vote_answer}
-use Rattle.node_model.specs.Checks.{is_block_of_view, is_carried_good, is_next_block, signers_carried}
-use Rattle.node_model.specs.Leading.{is_at_start, leader, meta_eq, next_meta}
-use Rattle.node_model.specs.Letters.{is_commit_for}
+use Rattle.view_model.specs.Acts.{View, acceptance_due, accept_act, block_if, carried_cert, certificate, commits, deliver_act, delivery_due, delivery_if, due, first_of, is_acceptable, is_inside_view, is_voting, kept_proposal, kept_sig, may_propose, preparation_due, prepare_act, proposal, proposed, quorum_of, sig_in, sig_of}
+use Rattle.view_model.specs.Answers.{accepts_nothing, act_or, at_place, due_answer, first_reason, fresh, is_near, is_new, is_same_config, keep, kept_after, kept_or, message_reasons, offer_reasons, own_reasons, prepare_answer, propose_answer, raised, reason_or, stands_outside, vote_answer}
+use Rattle.view_model.specs.Checks.{is_block_of_view, is_carried_good, is_next_block, signers_carried}
+use Rattle.view_model.specs.Leading.{is_at_start, leader, meta_eq, next_meta}
+use Rattle.view_model.specs.Letters.{is_commit_for}
 use Rattle.bft_wire.specs.declared.message.PrePrepare.{PrePrepare}
 use Rattle.bft_wire.specs.declared.reason.Reason.TheVariants as reason
-use Rattle.node_model.specs.declared.act.Act.{Act}
-use Rattle.node_model.specs.declared.letter.Letter.{Letter}
-use Rattle.node_model.specs.declared.letter.VoteMessage.{VoteMessage}
-use Rattle.node_model.specs.declared.letter.VoteMessage.TheVariants as message_of
+use Rattle.view_model.specs.declared.act.Act.{Act}
+use Rattle.view_model.specs.declared.letter.Letter.{Letter}
+use Rattle.view_model.specs.declared.letter.VoteMessage.{VoteMessage}
+use Rattle.view_model.specs.declared.letter.VoteMessage.TheVariants as message_of
 use Rattle.view_core.specs.Fits.{FitsAct}
 use Rattle.view_core.specs.Held.{IsHeld, are_short, is_held, is_short}
 use Rattle.view_core.specs.Places.{IsPlace}

@@ -7,12 +7,12 @@ use Rattle.bft_wire.specs.declared.reason.Reason.TheVariants as reason
 use Rattle.ord_types.specs.Members.{is_in, is_raft}
 use Rattle.ord_types.specs.declared.values.Place.{Place}
 use Rattle.safety_model.specs.Blocks.{Block, Request}
-use Rattle.node_model.specs.declared.act.Act.{Act}
-use Rattle.node_model.specs.declared.act.Act.TheVariants as act_of
-use Rattle.node_model.specs.Acts.{View, accept_act, is_inside_view, may_propose, proposal}
-use Rattle.node_model.specs.Answers.{Reasons, act_or, first_reason, own_reasons, propose_answer, reason_or}
-use Rattle.node_model.specs.Checks.{is_next_block}
-use Rattle.node_model.specs.Leading.{leader}
+use Rattle.view_model.specs.declared.act.Act.{Act}
+use Rattle.view_model.specs.declared.act.Act.TheVariants as act_of
+use Rattle.view_model.specs.Acts.{View, accept_act, is_inside_view, may_propose, proposal}
+use Rattle.view_model.specs.Answers.{Reasons, act_or, first_reason, own_reasons, propose_answer, reason_or}
+use Rattle.view_model.specs.Checks.{is_next_block}
+use Rattle.view_model.specs.Leading.{leader}
 use Rattle.view_core.specs.Places.{turn_reasons}
 use Rattle.view_core.proofs.AnswerLemmas.{first_reason_append}
 

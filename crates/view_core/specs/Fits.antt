@@ -1,8 +1,8 @@
 -- Acts whose values have a spelling.
 use Rattle.std.specs.Prelude.{⊤}
 use Rattle.ord_types.specs.Lengths.{FitsBlock, FitsCert}
-use Rattle.node_model.specs.declared.act.Act.{Act}
-use Rattle.node_model.specs.declared.act.Act.TheVariants as act_of
+use Rattle.view_model.specs.declared.act.Act.{Act}
+use Rattle.view_model.specs.declared.act.Act.TheVariants as act_of
 
 -- the lengths of a block and of a certificate that an act names fit the fields that tell them
 abbrev pub FitsAct : Act → Type 0

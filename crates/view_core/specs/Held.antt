@@ -2,11 +2,11 @@
 use Rattle.std.specs.Prelude.{ℕ, ◌≤◌, ◌^◌, Bool, true, ◌&&◌, ◌==◌, nat_lt, List, length, IsTrue}
 use Rattle.std.specs.List.{list_all, IsDistinct}
 use Rattle.ord_types.specs.Members.{is_in}
-use Rattle.node_model.specs.Letters.{same_slot, config_in, view_in}
-use Rattle.node_model.specs.declared.letter.Letter.{Letter}
-use Rattle.node_model.specs.declared.letter.VoteMessage.{VoteMessage}
-use Rattle.node_model.specs.declared.letter.VoteMessage.TheVariants as message_of
-use Rattle.node_model.specs.Answers.{is_near}
+use Rattle.view_model.specs.Letters.{same_slot, config_in, view_in}
+use Rattle.view_model.specs.declared.letter.Letter.{Letter}
+use Rattle.view_model.specs.declared.letter.VoteMessage.{VoteMessage}
+use Rattle.view_model.specs.declared.letter.VoteMessage.TheVariants as message_of
+use Rattle.view_model.specs.Answers.{is_near}
 
 -- a Commit's signature has a spelling; nothing is asked of the other messages
 abbrev pub is_short : VoteMessage → Bool

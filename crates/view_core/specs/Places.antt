@@ -3,9 +3,9 @@ use Rattle.std.specs.Prelude.{◌≡◌, ◌≤◌, ◌<◌, ◌^◌, ◌==◌, 
 use Rattle.std.specs.Option.{ForSome}
 use Rattle.ord_types.specs.Lengths.{FitsCert}
 use Rattle.bft_wire.specs.declared.reason.Reason.TheVariants as reason
-use Rattle.node_model.specs.Acts.{View}
-use Rattle.node_model.specs.Answers.{Reasons}
-use Rattle.node_model.specs.Leading.{leader}
+use Rattle.view_model.specs.Acts.{View}
+use Rattle.view_model.specs.Answers.{Reasons}
+use Rattle.view_model.specs.Leading.{leader}
 pub use Rattle.ord_types.specs.declared.values.Place.{Place}
 
 -- 1 to 31 members, a block 0, numbers below 2^62, and a last certificate that has a spelling

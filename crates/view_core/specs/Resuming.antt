@@ -2,7 +2,7 @@
 use Rattle.std.specs.Prelude.{ℕ, ◌==◌, Bool, false, [], Option, Some, None, if◌then◌else◌}
 use Rattle.ord_types.specs.declared.values.Block.{Block}
 use Rattle.ord_types.specs.declared.values.Vote.{Vote}
-use Rattle.node_model.specs.Acts.{View}
+use Rattle.view_model.specs.Acts.{View}
 use Rattle.view_core.specs.Places.{Place}
 use Rattle.view_core.specs.declared.resume.Held.{Held}
 

@@ -1,14 +1,14 @@
 //! What a proposed block and the certificate that comes with it must be.
 ghost use Rattle.std.specs.Prelude.{◌≡◌};
 ghost use Rattle.std.specs.Str.{bytes_eq};
-ghost use Rattle.node_model.specs.Checks.{
+ghost use Rattle.view_model.specs.Checks.{
   is_block_of_view,
   is_carried_good,
   is_next_block,
   signers_carried,
 };
-ghost use Rattle.node_model.specs.Acts.{is_acceptable};
-ghost use Rattle.node_model.specs.Leading.{is_at_start, meta_eq, next_meta, turn};
+ghost use Rattle.view_model.specs.Acts.{is_acceptable};
+ghost use Rattle.view_model.specs.Leading.{is_at_start, meta_eq, next_meta, turn};
 ghost use Rattle.view_core.specs.Places.{IsPlace};
 
 use bft_wire::PrePrepare;

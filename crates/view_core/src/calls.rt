@@ -1,10 +1,10 @@
 //! The calls on a view: what is due, and what a message or an offer brings.
 ghost use Rattle.std.specs.Prelude.{◌≡◌, ◌++◌, IfOk, OnOk, OnErr, false, IsTrue};
-ghost use Rattle.node_model.specs.declared.letter.VoteMessage.TheVariants as message_of;
+ghost use Rattle.view_model.specs.declared.letter.VoteMessage.TheVariants as message_of;
 ghost use Rattle.bft_wire.specs.declared.reason.Reason.TheVariants as reason;
-ghost use Rattle.node_model.specs.declared.act.Act.TheVariants as act_of;
-ghost use Rattle.node_model.specs.Acts.{due, preparation_due, prepare_act};
-ghost use Rattle.node_model.specs.Answers.{
+ghost use Rattle.view_model.specs.declared.act.Act.TheVariants as act_of;
+ghost use Rattle.view_model.specs.Acts.{due, preparation_due, prepare_act};
+ghost use Rattle.view_model.specs.Answers.{
   accepts_nothing,
   act_or,
   after_act,
@@ -42,7 +42,7 @@ use crate::held::{Accepted, ViewState};
 use crate::keeping::{has_slot, is_raft, is_signed, outside};
 use crate::proposals::proposed_block;
 use bft_wire::{Commit, PrePrepare, Prepare, Reason};
-use node_model::{Act, Letter, VoteMessage};
+use view_model::{Act, Letter, VoteMessage};
 use ord_types::{Block, Copied, List, NoMemory, Place, Request, block_hash};
 use signer_edge::Verifier;
 

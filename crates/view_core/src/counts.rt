@@ -2,8 +2,8 @@
 ghost use Rattle.std.specs.Prelude.{◌≡◌, filter_map, length, option_copied, IfOk};
 ghost use Rattle.std.specs.List.{list_any};
 ghost use Rattle.ord_types.specs.Members.{how_many, is_in};
-ghost use Rattle.node_model.specs.Letters.{is_prepare_for};
-ghost use Rattle.node_model.specs.Acts.{
+ghost use Rattle.view_model.specs.Letters.{is_prepare_for};
+ghost use Rattle.view_model.specs.Acts.{
   has_prepare,
   is_members_prepare,
   kept_proposal,
@@ -13,7 +13,7 @@ ghost use Rattle.node_model.specs.Acts.{
 };
 
 use bft_wire::PrePrepare;
-use node_model::{Letter, VoteMessage};
+use view_model::{Letter, VoteMessage};
 use ord_types::{Copied, Digest, List, NoMemory, Sig};
 use std::alloc::Global;
 

@@ -1,9 +1,9 @@
 //! What is due in a view, and where the view stands.
 ghost use Rattle.std.specs.Prelude.{◌≡◌, ◌≤◌, ◌&&◌, IfOk, length, nat_le, vec_capacity, IsTrue};
-ghost use Rattle.node_model.specs.Leading.{leader};
-ghost use Rattle.node_model.specs.Acts.{acceptance_due, commits, delivery_due, is_inside_view, is_voting, preparation_due, quorum_of};
-ghost use Rattle.node_model.specs.Checks.{is_next_block};
-ghost use Rattle.node_model.specs.Answers.{at_place, fresh, raised};
+ghost use Rattle.view_model.specs.Leading.{leader};
+ghost use Rattle.view_model.specs.Acts.{acceptance_due, commits, delivery_due, is_inside_view, is_voting, preparation_due, quorum_of};
+ghost use Rattle.view_model.specs.Checks.{is_next_block};
+ghost use Rattle.view_model.specs.Answers.{at_place, fresh, raised};
 ghost use Rattle.view_core.specs.Held.{are_short};
 ghost use Rattle.view_core.specs.Places.{IsPlace, StandsAt};
 

@@ -2,11 +2,11 @@
 ghost use Rattle.std.specs.Prelude.{◌≡◌, ◌≤◌, IfOk, vec_capacity};
 ghost use Rattle.std.specs.Option.{option_map};
 ghost use Rattle.ord_types.specs.Hashes.{block_hash};
-ghost use Rattle.node_model.specs.Acts.{View};
-ghost use Rattle.node_model.specs.Answers.{unplaced};
+ghost use Rattle.view_model.specs.Acts.{View};
+ghost use Rattle.view_model.specs.Answers.{unplaced};
 ghost use Rattle.view_core.specs.Held.{IsHeld, most_kept};
 
-use node_model::Letter;
+use view_model::Letter;
 use ord_types::{Block, Digest, NoMemory};
 use std::alloc::Global;
 use std::marker::Model;

@@ -3,13 +3,13 @@ ghost use Rattle.std.specs.Prelude.{◌≡◌, ◌<◌, ◌^◌, ◌==◌, ◌&&
 ghost use Rattle.std.specs.List.{list_any};
 ghost use Rattle.ord_types.specs.Members.{is_raft};
 ghost use Rattle.signer_edge.specs.Statements.{commit_text};
-ghost use Rattle.node_model.specs.Letters.{config_in, kind_of, number_in, same_slot, view_in};
-ghost use Rattle.node_model.specs.Acts.{View};
-ghost use Rattle.node_model.specs.Answers.{first_reason, is_near, is_signed, stands_outside};
+ghost use Rattle.view_model.specs.Letters.{config_in, kind_of, number_in, same_slot, view_in};
+ghost use Rattle.view_model.specs.Acts.{View};
+ghost use Rattle.view_model.specs.Answers.{first_reason, is_near, is_signed, stands_outside};
 
 use crate::counts::is_among;
 use bft_wire::{Commit, Reason};
-use node_model::{Letter, VoteMessage};
+use view_model::{Letter, VoteMessage};
 use ord_types::{Config, Kind, Place};
 use signer_edge::{Verifier, commit_statement};
 

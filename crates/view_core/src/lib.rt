@@ -14,6 +14,6 @@ mod resume;
 mod tests;
 
 pub use held::ViewState;
-pub use node_model::Act;
+pub use view_model::Act;
 pub use proposals::proposal;
 pub use resume::Held;

@@ -1,8 +1,8 @@
 //! The block that a leader proposes.
 ghost use Rattle.std.specs.Prelude.{◌≡◌, IfOk, if◌then◌else◌};
-ghost use Rattle.node_model.specs.Acts.{carried_cert, proposal};
-ghost use Rattle.node_model.specs.Checks.{is_next_block, signers_carried};
-ghost use Rattle.node_model.specs.Leading.{next_meta};
+ghost use Rattle.view_model.specs.Acts.{carried_cert, proposal};
+ghost use Rattle.view_model.specs.Checks.{is_next_block, signers_carried};
+ghost use Rattle.view_model.specs.Leading.{next_meta};
 ghost use Rattle.ord_types.specs.Lengths.{FitsBlock, FitsCert, FitsIds, FitsMeta, FitsRequests};
 ghost use Rattle.view_core.specs.Places.{IsPlace};
 

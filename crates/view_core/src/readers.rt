@@ -1,7 +1,7 @@
 //! What others may know of a view.
 ghost use Rattle.std.specs.Prelude.{◌≡◌};
-ghost use Rattle.node_model.specs.Acts.{may_propose};
-ghost use Rattle.node_model.specs.Answers.{at_place};
+ghost use Rattle.view_model.specs.Acts.{may_propose};
+ghost use Rattle.view_model.specs.Answers.{at_place};
 ghost use Rattle.view_core.specs.Places.{IsPlace};
 
 use crate::dues::leader;

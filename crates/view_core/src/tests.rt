@@ -5,7 +5,7 @@ ghost use Rattle.view_core.specs.Places.{IsPlace};
 
 use crate::held::ViewState;
 use bft_wire::{Commit, PrePrepare, Prepare, Reason};
-use node_model::Act;
+use view_model::Act;
 use ord_types::{
     Batch, Block, Bytes, Cert, Config, Digest, Kind, List, Meta, Mode, NoMemory, Place, ReqId,
     ReqKind, Request, Sig, block_hash,

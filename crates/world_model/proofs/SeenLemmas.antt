@@ -23,7 +23,7 @@ use Rattle.node_model.specs.Cores.{core_opens}
 use Rattle.node_model.specs.Deeds.{Deed, deeds_of}
 use Rattle.node_model.specs.Keeping.{PastNode, past_opens, past_place, past_ways, place_of, view_of}
 use Rattle.node_model.specs.Restarts.{Returned, past_returns, returned_returns, step}
-use Rattle.node_model.specs.Letters.{PrePrepare}
+use Rattle.view_model.specs.Letters.{PrePrepare}
 use Rattle.node_model.specs.Seen.{NothingAhead, returned_making, returned_of_past}
 use Rattle.node_model.proofs.AheadLemmas.{ahead_opens, ahead_reopens}
 use Rattle.node_model.proofs.RestartLemmas.{reopens_same, returns_same}

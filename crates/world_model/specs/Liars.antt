@@ -13,9 +13,9 @@ use Rattle.bft_wire.specs.declared.message.Message.TheVariants as message_of
 use Rattle.script.specs.declared.command.VoteKind.{VoteKind}
 use Rattle.script.specs.declared.command.VoteKind.TheVariants.{Prepare, Commit}
 use Rattle.script_play.specs.Turns.{Turn}
-use Rattle.node_model.specs.Acts.{carried_cert, proposal}
-use Rattle.node_model.specs.Leading.{Place}
-use Rattle.node_model.specs.Letters.{PrePrepare}
+use Rattle.view_model.specs.Acts.{carried_cert, proposal}
+use Rattle.view_model.specs.Leading.{Place}
+use Rattle.view_model.specs.Letters.{PrePrepare}
 use Rattle.world_model.specs.Says.{goes_on, refuses, says, within_limit}
 use Rattle.world_model.specs.Texts.{lied_text, seal_text}
 use Rattle.world_model.specs.Worlds.{Entry, Node, Setting, World, seals_of}

@@ -10,7 +10,7 @@ use Rattle.safety_model.specs.declared.fact.Fact.TheVariants.{Delivered, Prepare
 use Rattle.signer_edge.specs.declared.seals.Seal.{Seal}
 use Rattle.signer_edge.specs.Seals.{is_sealed}
 use Rattle.bft_wire.specs.Spelling.{message_text}
-use Rattle.node_model.specs.Acts.{may_propose}
+use Rattle.view_model.specs.Acts.{may_propose}
 use Rattle.node_model.specs.Deeds.{Deed, deeds_of, fact_of}
 use Rattle.node_model.specs.Restarts.{Returns, step}
 use Rattle.node_model.specs.Steps.{Ways, Keys, Making, Post, Event, Tick, FromMember}

@@ -10,7 +10,7 @@ use Rattle.bft_wire.specs.Reading.{message_in}
 use Rattle.bft_wire.specs.Spelling.{message_text}
 use Rattle.bft_wire.specs.declared.message.Message.{Message}
 use Rattle.block_ledger.specs.Ledgers.{blocks_of}
-use Rattle.node_model.specs.Letters.{PrePrepare}
+use Rattle.view_model.specs.Letters.{PrePrepare}
 use Rattle.node_model.specs.Restarts.{Returned}
 use Rattle.ord_types.specs.Members.{is_in}
 use Rattle.ord_types.specs.declared.values.Place.{Place}

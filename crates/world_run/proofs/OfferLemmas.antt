@@ -3,7 +3,7 @@ use Rattle.std.proofs.Common.{◌≡◌, ℕ, ◌↔◌, get_or, Bool, true, fal
 use Rattle.std.specs.Option.{option_map}
 use Rattle.std.specs.Prelude.{slice_get}
 use Rattle.std.proofs.lemmas.Option.{same_Some}
-use Rattle.node_model.specs.Acts.{may_propose}
+use Rattle.view_model.specs.Acts.{may_propose}
 use Rattle.node_model.specs.Restarts.{returned_ways}
 use Rattle.world_model.specs.Pools.{offer}
 use Rattle.world_model.specs.Worlds as worlds

@@ -7,7 +7,7 @@ use Rattle.ord_types.specs.declared.values.Sig.{Sig}
 use Rattle.signer_edge.specs.Statements.{commit_text}
 use Rattle.bft_wire.specs.declared.message.Message.{Message}
 use Rattle.bft_wire.specs.declared.message.Message.TheVariants as message_of
-use Rattle.node_model.specs.Letters.{PrePrepare}
+use Rattle.view_model.specs.Letters.{PrePrepare}
 use Rattle.world_model.specs.Liars.{proposal_in}
 use Rattle.world_model.specs.Worlds.{World}
 use Rattle.world_run.specs.declared.liars.Bar.{Bar}

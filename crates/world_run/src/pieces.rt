@@ -4,7 +4,7 @@ ghost use Rattle.ord_types.specs.Lengths.{FitsCert, FitsSig};
 ghost use Rattle.bft_wire.specs.Lengths.{FitsMessage};
 ghost use Rattle.bft_wire.specs.Reading.{message_in};
 ghost use Rattle.bft_wire.specs.Spelling.{message_text};
-ghost use Rattle.node_model.specs.Acts.{carried_cert};
+ghost use Rattle.view_model.specs.Acts.{carried_cert};
 ghost use Rattle.signer_edge.specs.Seals.{next_sig, with_seal};
 ghost use Rattle.view_core.specs.Places.{IsPlace};
 

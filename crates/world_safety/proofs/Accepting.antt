@@ -9,9 +9,9 @@ use Rattle.safety_model.specs.Facts.{History, has, is_accepted_at, is_entered_ag
 use Rattle.safety_model.specs.declared.fact.Fact.TheVariants.{Accepted}
 use Rattle.safety_model.specs.State.{Setup, height, config_of, view, left}
 use Rattle.safety_model.specs.Rules.{Allowed}
-use Rattle.node_model.specs.Leading.{Place, leader}
-use Rattle.node_model.specs.Acts.{View, block_if, is_inside_view, is_voting, kept_proposal, may_propose, proposal}
-use Rattle.node_model.specs.Checks.{is_next_block}
+use Rattle.view_model.specs.Leading.{Place, leader}
+use Rattle.view_model.specs.Acts.{View, block_if, is_inside_view, is_voting, kept_proposal, may_propose, proposal}
+use Rattle.view_model.specs.Checks.{is_next_block}
 use Rattle.world_safety.proofs.Standing.{Stands, Bounded, AcceptancesAreAllowed, ProposalsAreAllowed}
 
 none_is : {X : Type 0} (o : Option X) → is_none o ≡ true → o ≡ None

@@ -12,13 +12,13 @@ use Rattle.safety_model.proofs.FactTests.{bytes_same}
 use Rattle.signer_edge.specs.Accepts.{Accepts}
 use Rattle.signer_edge.specs.Certificates.{is_good_cert, signers_of}
 use Rattle.signer_edge.specs.Statements.{commit_text}
-use Rattle.node_model.specs.declared.letter.VoteMessage.TheVariants as message_of
-use Rattle.node_model.specs.declared.letter.Letter.{Letter}
-use Rattle.node_model.specs.Answers.{is_signed}
-use Rattle.node_model.specs.declared.letter.VoteMessage.{VoteMessage}
-use Rattle.node_model.specs.Letters.{is_commit_for}
-use Rattle.node_model.specs.Leading.{Place}
-use Rattle.node_model.specs.Acts.{View, certificate, commits, delivery_due, first_of, kept_sig, sig_in}
+use Rattle.view_model.specs.declared.letter.VoteMessage.TheVariants as message_of
+use Rattle.view_model.specs.declared.letter.Letter.{Letter}
+use Rattle.view_model.specs.Answers.{is_signed}
+use Rattle.view_model.specs.declared.letter.VoteMessage.{VoteMessage}
+use Rattle.view_model.specs.Letters.{is_commit_for}
+use Rattle.view_model.specs.Leading.{Place}
+use Rattle.view_model.specs.Acts.{View, certificate, commits, delivery_due, first_of, kept_sig, sig_in}
 use Rattle.node_model.specs.Keeping.{is_of_view}
 use Rattle.world_safety.proofs.Delivering.{as_many, due_is, is_signer, next_is}
 

@@ -12,13 +12,13 @@ use Rattle.safety_model.specs.Facts.{Cert, History, Sig, has, is_prepared, signe
 use Rattle.safety_model.specs.State.{Setup, height, tip, config_of}
 use Rattle.safety_model.specs.Rules.{is_proof, quorum_of}
 use Rattle.safety_model.proofs.FactTests.{bytes_same}
-use Rattle.node_model.specs.declared.letter.VoteMessage.TheVariants as message_of
-use Rattle.node_model.specs.declared.letter.Letter.{Letter}
-use Rattle.node_model.specs.declared.letter.VoteMessage.{VoteMessage}
-use Rattle.node_model.specs.Letters.{is_commit_for}
-use Rattle.node_model.specs.Leading.{Place}
-use Rattle.node_model.specs.Checks.{is_next_block}
-use Rattle.node_model.specs.Acts.{View, certificate, commits, delivery_due, delivery_if, first_of, kept_sig, sig_in}
+use Rattle.view_model.specs.declared.letter.VoteMessage.TheVariants as message_of
+use Rattle.view_model.specs.declared.letter.Letter.{Letter}
+use Rattle.view_model.specs.declared.letter.VoteMessage.{VoteMessage}
+use Rattle.view_model.specs.Letters.{is_commit_for}
+use Rattle.view_model.specs.Leading.{Place}
+use Rattle.view_model.specs.Checks.{is_next_block}
+use Rattle.view_model.specs.Acts.{View, certificate, commits, delivery_due, delivery_if, first_of, kept_sig, sig_in}
 use Rattle.world_safety.specs.Fits.{CertFits}
 use Rattle.world_safety.proofs.Ids.{IsSigOf, cert_fits}
 use Rattle.world_safety.proofs.Standing.{DeliveriesAreAllowed, IsKeptWell, Stands}

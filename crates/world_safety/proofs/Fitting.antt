@@ -14,13 +14,13 @@ use Rattle.safety_model.specs.Facts.{History, Stands}
 use Rattle.safety_model.specs.State.{Setup}
 use Rattle.safety_model.specs.declared.fact.Fact.{Fact}
 use Rattle.signer_edge.specs.Accepts.{Accepts}
-use Rattle.node_model.specs.declared.letter.VoteMessage.TheVariants as message_of
-use Rattle.node_model.specs.declared.letter.Letter.{Letter}
-use Rattle.node_model.specs.declared.letter.VoteMessage.{VoteMessage}
-use Rattle.node_model.specs.Letters.{PrePrepare, proposal_in}
-use Rattle.node_model.specs.Leading.{Place, is_at_start, leader, meta_eq, next_meta, turn}
-use Rattle.node_model.specs.Checks.{is_block_of_view, is_carried_good, is_next_block, signers_carried}
-use Rattle.node_model.specs.Acts.{View, acceptance_due, block_if, carried_cert, first_of, is_acceptable, is_inside_view, is_voting, kept_proposal, may_propose, proposal, proposed}
+use Rattle.view_model.specs.declared.letter.VoteMessage.TheVariants as message_of
+use Rattle.view_model.specs.declared.letter.Letter.{Letter}
+use Rattle.view_model.specs.declared.letter.VoteMessage.{VoteMessage}
+use Rattle.view_model.specs.Letters.{PrePrepare, proposal_in}
+use Rattle.view_model.specs.Leading.{Place, is_at_start, leader, meta_eq, next_meta, turn}
+use Rattle.view_model.specs.Checks.{is_block_of_view, is_carried_good, is_next_block, signers_carried}
+use Rattle.view_model.specs.Acts.{View, acceptance_due, block_if, carried_cert, first_of, is_acceptable, is_inside_view, is_voting, kept_proposal, may_propose, proposal, proposed}
 use Rattle.world_safety.proofs.Delivering.{next_is}
 use Rattle.world_safety.specs.Fits.{CertFits, FitsAt}
 use Rattle.world_safety.proofs.Standing.{IsKeptWell, Stands as StandsBy}

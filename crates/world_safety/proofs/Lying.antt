@@ -18,7 +18,7 @@ use Rattle.signer_edge.proofs.SealFacts.{is_sealed-grown}
 use Rattle.bft_wire.specs.Reading.{message_in}
 use Rattle.bft_wire.specs.Spelling.{message_text}
 use Rattle.node_model.specs.Keeping.{PastNode, past_place, place_of}
-use Rattle.node_model.specs.Letters.{PrePrepare}
+use Rattle.view_model.specs.Letters.{PrePrepare}
 use Rattle.node_model.specs.Past.{facts_of}
 use Rattle.world_model.specs.Liars.{commit_for, is_raft_if_any, longer, longest, prepare_for, proposal_of, sig_at, statement_for, with_sent, with_signed}
 use Rattle.world_model.specs.Turns.{ordinary}

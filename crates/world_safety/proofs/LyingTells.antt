@@ -15,7 +15,7 @@ use Rattle.script_play.specs.Turns.{Turn}
 use Rattle.bft_wire.specs.Reading.{message_in}
 use Rattle.bft_wire.specs.Spelling.{message_text}
 use Rattle.node_model.specs.Keeping.{PastNode, past_place}
-use Rattle.node_model.specs.Letters.{PrePrepare}
+use Rattle.view_model.specs.Letters.{PrePrepare}
 use Rattle.world_model.specs.Histories.{past_setting}
 use Rattle.world_model.specs.Liars.{as_liar, as_signer, commit_for, is_raft_if_any, lie_turn, longest, prepare_for, propose_on, propose_turn, proposal_of, proposed_in, seal_turn, sends, sig_at, statement_for, vote_for, vote_if, vote_turn, with_sent, with_signed}
 use Rattle.world_model.specs.Says.{goes_on, most_entries, refuses, says}

@@ -9,7 +9,7 @@ use Rattle.script.specs.Commands.{IsLie, IsPropose, IsVote}
 use Rattle.script.specs.declared.command.VoteKind.{VoteKind}
 use Rattle.bft_wire.specs.Reading.{message_in}
 use Rattle.node_model.specs.Keeping.{PastNode}
-use Rattle.node_model.specs.Letters.{PrePrepare}
+use Rattle.view_model.specs.Letters.{PrePrepare}
 use Rattle.world_model.specs.Liars.{is_raft_if_any, longest, proposed_in, with_sent, with_signed}
 use Rattle.world_model.specs.Says.{ordinary}
 use Rattle.world_model.specs.Worlds.{Entry, Node, entry}

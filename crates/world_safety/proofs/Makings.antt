@@ -21,8 +21,8 @@ use Rattle.signer_edge.specs.Accepts.{Accepts}
 use Rattle.signer_edge.specs.Statements.{commit_text}
 use Rattle.bft_wire.specs.declared.message.Message.{Message}
 use Rattle.bft_wire.specs.declared.message.Message.TheVariants as message_of
-use Rattle.node_model.specs.Leading.{Place}
-use Rattle.node_model.specs.Acts.{View, acceptance_due, delivery_due, preparation_due, proposed}
+use Rattle.view_model.specs.Leading.{Place}
+use Rattle.view_model.specs.Acts.{View, acceptance_due, delivery_due, preparation_due, proposed}
 use Rattle.node_model.specs.Past.{Past, Did, Signed, facts_of}
 use Rattle.node_model.specs.Keeping.{PastNode, past_ways, place_of, view_of}
 use Rattle.node_model.specs.Steps.{Event, Keys, Making, Post, Tick, FromMember, accept_round, commit_message, deliver_round, makes_accepted, makes_delivered, makes_prepared, own_rule, prepare_message, prepare_round, preprepare_message, propose_round, rounds, to_all, votes}

@@ -19,11 +19,11 @@ use Rattle.safety_model.proofs.StateFacts.{first_view, moves_actor, never_agains
 use Rattle.signer_edge.specs.Accepts.{Accepts}
 use Rattle.bft_wire.specs.declared.message.Message.{Message}
 use Rattle.bft_wire.specs.declared.message.Message.TheVariants as wire
-use Rattle.node_model.specs.declared.letter.VoteMessage.TheVariants as message_of
-use Rattle.node_model.specs.declared.letter.Letter.{Letter}
-use Rattle.node_model.specs.declared.letter.VoteMessage.{VoteMessage}
-use Rattle.node_model.specs.Letters.{Commit, config_in, letter_in, on_wire, same_slot, view_in}
-use Rattle.node_model.specs.Answers.{is_near, is_signed}
+use Rattle.view_model.specs.declared.letter.VoteMessage.TheVariants as message_of
+use Rattle.view_model.specs.declared.letter.Letter.{Letter}
+use Rattle.view_model.specs.declared.letter.VoteMessage.{VoteMessage}
+use Rattle.view_model.specs.Letters.{Commit, config_in, letter_in, on_wire, same_slot, view_in}
+use Rattle.view_model.specs.Answers.{is_near, is_signed}
 use Rattle.node_model.specs.Steps.{Event, Tick, FromMember}
 use Rattle.node_model.specs.Past.{Entry, Past, Opened, Came, Did, Signed, accepted_block, facts_of}
 use Rattle.node_model.specs.Keeping.{firsts, is_of_view, is_timely, kept, letter_of, of_another, own_commit, place_of, timely, view_of}

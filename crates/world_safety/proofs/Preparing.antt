@@ -12,11 +12,11 @@ use Rattle.safety_model.specs.State.{Setup, height, config_of, view, left}
 use Rattle.safety_model.specs.Rules.{quorum_of, is_backed}
 use Rattle.safety_model.proofs.Quorums.{how_many_more}
 use Rattle.safety_model.proofs.FactTests.{bytes_same}
-use Rattle.node_model.specs.declared.letter.VoteMessage.TheVariants as message_of
-use Rattle.node_model.specs.declared.letter.VoteMessage.{VoteMessage}
-use Rattle.node_model.specs.Letters.{is_prepare_for}
-use Rattle.node_model.specs.Leading.{Place}
-use Rattle.node_model.specs.Acts.{View, digest_if, has_prepare, is_inside_view, is_members_prepare, is_voting, preparation_due, prepares}
+use Rattle.view_model.specs.declared.letter.VoteMessage.TheVariants as message_of
+use Rattle.view_model.specs.declared.letter.VoteMessage.{VoteMessage}
+use Rattle.view_model.specs.Letters.{is_prepare_for}
+use Rattle.view_model.specs.Leading.{Place}
+use Rattle.view_model.specs.Acts.{View, digest_if, has_prepare, is_inside_view, is_members_prepare, is_voting, preparation_due, prepares}
 use Rattle.world_safety.proofs.Standing.{IsKeptWell, Stands, PreparationsAreAllowed}
 
 -- of a list whose elements all have a property, one that passes a test

@@ -18,9 +18,9 @@ use Rattle.bft_wire.specs.Reading.{body_at, decoded, message_at, message_in, pre
 use Rattle.bft_wire.specs.Spelling.{message_text}
 use Rattle.bft_wire.specs.declared.message.Message.{Message}
 use Rattle.bft_wire.specs.declared.message.Message.TheVariants as wire
-use Rattle.node_model.specs.Acts.{carried_cert, proposal}
-use Rattle.node_model.specs.Leading.{Place}
-use Rattle.node_model.specs.Letters.{PrePrepare}
+use Rattle.view_model.specs.Acts.{carried_cert, proposal}
+use Rattle.view_model.specs.Leading.{Place}
+use Rattle.view_model.specs.Letters.{PrePrepare}
 use Rattle.world_model.specs.Liars.{commit_for, is_raft_if_any, prepare_for, proposal_in, proposal_of, proposed_in}
 use Rattle.world_safety.proofs.Delivering.{some_same}
 use Rattle.world_safety.proofs.Fitting.{PlaceFits, block_fits_at, carried_fits}

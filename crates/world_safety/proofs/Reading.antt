@@ -26,10 +26,10 @@ use Rattle.bft_wire.specs.Spelling.{message_text}
 use Rattle.bft_wire.specs.declared.message.Message.{Message}
 use Rattle.bft_wire.specs.declared.message.Message.TheVariants as wire
 use Rattle.bft_wire.proofs.MessageLaws.{decoded_complete, decoded_sound}
-use Rattle.node_model.specs.declared.letter.Letter.{Letter}
-use Rattle.node_model.specs.declared.letter.VoteMessage.TheVariants as message_of
-use Rattle.node_model.specs.declared.letter.VoteMessage.{VoteMessage}
-use Rattle.node_model.specs.Letters.{on_wire, vote_in}
+use Rattle.view_model.specs.declared.letter.Letter.{Letter}
+use Rattle.view_model.specs.declared.letter.VoteMessage.TheVariants as message_of
+use Rattle.view_model.specs.declared.letter.VoteMessage.{VoteMessage}
+use Rattle.view_model.specs.Letters.{on_wire, vote_in}
 use Rattle.world_model.specs.Liars.{is_raft_if_any, is_raft_message}
 use Rattle.world_model.specs.Pools.{entered, has_id, pool_after, request_in}
 use Rattle.world_model.specs.Turns.{ordinary}

@@ -12,9 +12,9 @@ use Rattle.safety_model.specs.Rules.{IsRun}
 use Rattle.safety_model.specs.State.{Setup}
 use Rattle.signer_edge.specs.Statements.{commit_text}
 use Rattle.bft_wire.specs.declared.message.Message.TheVariants as message_of
-use Rattle.node_model.specs.Acts.{View, is_inside_view, is_voting}
+use Rattle.view_model.specs.Acts.{View, is_inside_view, is_voting}
 use Rattle.node_model.specs.Keeping.{PastNode, past_ways, view_of}
-use Rattle.node_model.specs.Leading.{Place, leader}
+use Rattle.view_model.specs.Leading.{Place, leader}
 use Rattle.node_model.specs.Past.{Came}
 use Rattle.node_model.specs.Restarts.{Found, current, found_of, is_current, past_returns, repeat_round, repeated_votes, repeats_commit, repeats_if, repeats_on, repeats_votes, step}
 use Rattle.node_model.specs.Steps.{Event, FromMember, Keys, Post, Tick, begins, commit_message, own_rule, prepare_message, preprepare_message, to_all}

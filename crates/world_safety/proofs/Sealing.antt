@@ -24,12 +24,12 @@ use Rattle.signer_edge.specs.declared.seals.Seal.{Seal}
 use Rattle.signer_edge.proofs.CertificateFacts.{is_good_cert-kept}
 use Rattle.signer_edge.proofs.SealFacts.{is_sealed-grown}
 use Rattle.bft_wire.specs.declared.message.Message.{Message}
-use Rattle.node_model.specs.declared.letter.VoteMessage.TheVariants as message_of
-use Rattle.node_model.specs.declared.letter.Letter.{Letter}
-use Rattle.node_model.specs.Acts.{acceptance_due, delivery_due, preparation_due, proposed}
-use Rattle.node_model.specs.Answers.{is_near, is_signed}
-use Rattle.node_model.specs.declared.letter.VoteMessage.{VoteMessage}
-use Rattle.node_model.specs.Letters.{config_in, view_in}
+use Rattle.view_model.specs.declared.letter.VoteMessage.TheVariants as message_of
+use Rattle.view_model.specs.declared.letter.Letter.{Letter}
+use Rattle.view_model.specs.Acts.{acceptance_due, delivery_due, preparation_due, proposed}
+use Rattle.view_model.specs.Answers.{is_near, is_signed}
+use Rattle.view_model.specs.declared.letter.VoteMessage.{VoteMessage}
+use Rattle.view_model.specs.Letters.{config_in, view_in}
 use Rattle.node_model.specs.Past.{Past, facts_of}
 use Rattle.node_model.specs.Keeping.{PastNode, is_of_view, is_timely, kept, letter_of, own_commit, past_place, past_view, past_ways, place_of, timely, view_of}
 use Rattle.node_model.specs.Restarts.{Found, current, found_of, past_returns, repeat_round, repeats_commit, repeats_if, repeats_on, repeats_votes, step}

@@ -6,9 +6,9 @@ use Rattle.ord_types.specs.Hashes.{header_hash, block_hash}
 use Rattle.ord_types.specs.declared.values.Sig.{Sig}
 use Rattle.safety_model.specs.Blocks.{Block}
 use Rattle.bft_wire.specs.Messages.{HasMessageSpelling}
-use Rattle.node_model.specs.declared.letter.VoteMessage.TheVariants as message_of
-use Rattle.node_model.specs.Acts.{View}
-use Rattle.node_model.specs.Leading.{Place}
+use Rattle.view_model.specs.declared.letter.VoteMessage.TheVariants as message_of
+use Rattle.view_model.specs.Acts.{View}
+use Rattle.view_model.specs.Leading.{Place}
 use Rattle.node_model.specs.Steps.{commit_message, prepare_message, preprepare_message}
 use Rattle.world_safety.specs.Fits.{FitsAt, MessageFits}
 use Rattle.world_safety.proofs.Fitting.{PlaceFits, carried_fits, view_fits}

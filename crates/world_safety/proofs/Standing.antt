@@ -10,11 +10,11 @@ use Rattle.safety_model.specs.declared.fact.Fact.TheVariants.{Accepted, Prepared
 use Rattle.safety_model.specs.Rules.{Allowed, is_correct, keeps_bound}
 use Rattle.safety_model.specs.State.{Setup, height, tip, config_of, view, left}
 use Rattle.signer_edge.specs.Accepts.{Accepts}
-use Rattle.node_model.specs.declared.letter.VoteMessage.TheVariants as message_of
-use Rattle.node_model.specs.declared.letter.Letter.{Letter}
-use Rattle.node_model.specs.declared.letter.VoteMessage.{VoteMessage}
-use Rattle.node_model.specs.Leading.{Place}
-use Rattle.node_model.specs.Acts.{View, acceptance_due, delivery_due, preparation_due, proposed}
+use Rattle.view_model.specs.declared.letter.VoteMessage.TheVariants as message_of
+use Rattle.view_model.specs.declared.letter.Letter.{Letter}
+use Rattle.view_model.specs.declared.letter.VoteMessage.{VoteMessage}
+use Rattle.view_model.specs.Leading.{Place}
+use Rattle.view_model.specs.Acts.{View, acceptance_due, delivery_due, preparation_due, proposed}
 use Rattle.node_model.specs.Keeping.{is_of_view}
 use Rattle.world_safety.specs.Fits.{MessageFits}
 use Rattle.world_safety.specs.Steps.{rests}

@@ -24,7 +24,7 @@ use Rattle.std.proofs.lemmas.List.Elements.{All-nil, All-take}
 use Rattle.ord_types.specs.Grammar.{HasRequestSpelling}
 use Rattle.ord_types.proofs.Laws.{IsBytes}
 use Rattle.script_play.specs.Turns.{Turn}
-use Rattle.node_model.specs.Acts.{may_propose}
+use Rattle.view_model.specs.Acts.{may_propose}
 use Rattle.world_model.specs.Pools.{offer}
 use Rattle.world_safety.proofs.Beginning.{IsGoodIn, begun_good}
 use Rattle.world_safety.proofs.Tells.{Ends, IsEvent, delivery_ends, tick_ends}

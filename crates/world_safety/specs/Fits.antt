@@ -8,8 +8,8 @@ use Rattle.safety_model.specs.Facts.{Cert, Proof, signers_of}
 use Rattle.safety_model.specs.declared.fact.Fact.{Fact}
 use Rattle.safety_model.specs.declared.fact.Fact.TheVariants.{Accepted, Prepared, Left, Reported, Entered, Delivered}
 use Rattle.bft_wire.specs.Messages.{HasMessageSpelling}
-use Rattle.node_model.specs.declared.letter.VoteMessage.{VoteMessage}
-use Rattle.node_model.specs.Letters.{on_wire}
+use Rattle.view_model.specs.declared.letter.VoteMessage.{VoteMessage}
+use Rattle.view_model.specs.Letters.{on_wire}
 
 -- a block at number s that has a spelling, with no more decided before it in its view than stand before it
 pub record FitsAt (s : ℕ) (b : Block) : Type 0 where

@@ -11,11 +11,11 @@ use Rattle.safety_model.specs.declared.fact.Fact.{Fact}
 use Rattle.safety_model.specs.declared.fact.Fact.TheVariants.{Left, Entered}
 use Rattle.bft_wire.specs.Messages.{HasMessageSpelling}
 use Rattle.bft_wire.specs.declared.message.Message.{Message}
-use Rattle.node_model.specs.declared.letter.Letter.{Letter}
-use Rattle.node_model.specs.declared.letter.VoteMessage.TheVariants as message_of
+use Rattle.view_model.specs.declared.letter.Letter.{Letter}
+use Rattle.view_model.specs.declared.letter.VoteMessage.TheVariants as message_of
 use Rattle.node_model.specs.Deeds.{deeds_of, past_did}
 use Rattle.node_model.specs.Keeping.{PastNode}
-use Rattle.node_model.specs.Letters.{letter_in, on_wire}
+use Rattle.view_model.specs.Letters.{letter_in, on_wire}
 use Rattle.node_model.specs.Past.{Entry, Past, Opened, Came, Did, Signed, facts_of}
 use Rattle.node_model.specs.Restarts.{past_returns, returned_returns, step}
 use Rattle.node_model.specs.Seen.{NothingAhead, returned_of_past}

@@ -20,7 +20,7 @@ use Rattle.script_play.specs.Worlds.{worlds_after}
 use Rattle.bft_wire.specs.Reading.{message_in}
 use Rattle.bft_wire.specs.Spelling.{message_text}
 use Rattle.node_model.specs.Keeping.{PastNode, past_place}
-use Rattle.node_model.specs.Letters.{PrePrepare}
+use Rattle.view_model.specs.Letters.{PrePrepare}
 use Rattle.node_model.specs.Steps.{Event}
 use Rattle.world_model.specs.Histories.{past_setting, worlds_of}
 use Rattle.world_model.specs.Turns.{delivery, first_config, first_outcome, first_world, is_running, most_flushed, ordinary, submitted, tick_at, turn_of}

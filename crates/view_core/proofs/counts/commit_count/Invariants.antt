@@ -1,5 +1,5 @@
 use Rattle.std.proofs.Common.{◌≡◌, ◌+◌, ◌≤◌, length, filter_map, drop}
-use Rattle.node_model.specs.Acts.{kept_sig}
+use Rattle.view_model.specs.Acts.{kept_sig}
 use Rattle.view_core.proofs.counts.commit_count.Given as goal
 
 abbrev pub invariant-loop-member : goal.invariant-loop-member

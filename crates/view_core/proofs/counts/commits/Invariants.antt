@@ -1,5 +1,5 @@
 use Rattle.std.proofs.Common.{◌≡◌, ◌++◌, filter_map, drop}
-use Rattle.node_model.specs.Acts.{kept_sig}
+use Rattle.view_model.specs.Acts.{kept_sig}
 use Rattle.view_core.proofs.counts.commits.Given as goal
 
 abbrev pub invariant-loop-member : goal.invariant-loop-member

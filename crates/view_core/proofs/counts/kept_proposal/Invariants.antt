@@ -1,5 +1,5 @@
 use Rattle.std.proofs.Common.{◌≡◌, drop}
-use Rattle.node_model.specs.Acts.{kept_proposal}
+use Rattle.view_model.specs.Acts.{kept_proposal}
 use Rattle.view_core.proofs.counts.kept_proposal.Given as goal
 
 abbrev pub invariant-loop-letter : goal.invariant-loop-letter

@@ -1,6 +1,6 @@
 use Rattle.std.proofs.Common.{◌≡◌, ◌+◌, ◌≤◌, drop}
 use Rattle.ord_types.specs.Members.{how_many}
-use Rattle.node_model.specs.Acts.{has_prepare}
+use Rattle.view_model.specs.Acts.{has_prepare}
 use Rattle.view_core.proofs.counts.prepares.Given as goal
 
 abbrev pub invariant-loop-member : goal.invariant-loop-member

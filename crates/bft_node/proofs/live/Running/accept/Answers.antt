@@ -1,7 +1,7 @@
 use Rattle.std.proofs.Common.{◌++◌, [], List, ap, map, refl, subst, sym, ◌∙◌}
 use Rattle.ord_types.specs.declared.values.Block.{Block}
 use Rattle.node_model.specs.Deeds.{acceptance}
-use Rattle.node_model.specs.declared.act.Act.TheVariants as act_of
+use Rattle.view_model.specs.declared.act.Act.TheVariants as act_of
 use Rattle.node_model.specs.Steps as steps
 use Rattle.node_model.specs.Steps.{makes_accepted}
 use Rattle.bft_node.specs.Keeping.{Keeps}

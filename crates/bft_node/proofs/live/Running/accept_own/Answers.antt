@@ -2,7 +2,7 @@ use Rattle.std.proofs.Common.{◌∷◌, [], refl, subst, sym}
 use Rattle.ord_types.specs.declared.values.Block.{Block}
 use Rattle.node_model.specs.Deeds.{acceptance}
 use Rattle.node_model.specs.Steps.{makes_accepted, preprepare_message}
-use Rattle.node_model.specs.declared.act.Act.TheVariants as act_of
+use Rattle.view_model.specs.declared.act.Act.TheVariants as act_of
 use Rattle.bft_node.specs.Keeping.{Keeps}
 use Rattle.bft_node.specs.Making.{node_ways, place_in, view_in}
 use Rattle.bft_node.specs.NodeFaults.{NeedsLimit}

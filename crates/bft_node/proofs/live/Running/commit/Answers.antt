@@ -1,8 +1,8 @@
 use Rattle.std.proofs.Common.{◌≡◌, ◌++◌, ap, map, refl, subst, ◌∙◌}
 use Rattle.ord_types.specs.declared.values.Place.{Place}
 use Rattle.bft_wire.specs.declared.message.Message.TheVariants as wire
-use Rattle.node_model.specs.Answers.{after_vote, at_place, vote_answer}
-use Rattle.node_model.specs.Letters.{Commit}
+use Rattle.view_model.specs.Answers.{after_vote, at_place, vote_answer}
+use Rattle.view_model.specs.Letters.{Commit}
 use Rattle.node_model.specs.Steps.{to_all}
 use Rattle.bft_node.specs.Commits.{own_letter}
 use Rattle.bft_node.specs.Making.{sent_of, text_of}

@@ -1,7 +1,7 @@
 use Rattle.std.proofs.Common.{refl, subst, sym, ap, ◌∙◌}
 use Rattle.ord_types.specs.declared.values.Place.{Place}
-use Rattle.node_model.specs.Answers.{at_place}
-use Rattle.node_model.specs.declared.act.Act.TheVariants as act_of
+use Rattle.view_model.specs.Answers.{at_place}
+use Rattle.view_model.specs.declared.act.Act.TheVariants as act_of
 use Rattle.node_model.specs.Steps.{makes_delivered}
 use Rattle.bft_node.specs.Making.{node_ways}
 use Rattle.node_model.specs.Deeds.{Delivers}

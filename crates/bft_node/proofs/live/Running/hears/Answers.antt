@@ -1,7 +1,7 @@
 use Rattle.std.proofs.Common.{Some, ap, sym, ◌∙◌}
 use Rattle.std.proofs.lemmas.Result.{IfOk-weaker}
-use Rattle.node_model.specs.declared.letter.VoteMessage.TheVariants as vote_of
-use Rattle.node_model.specs.Letters.{vote_in}
+use Rattle.view_model.specs.declared.letter.VoteMessage.TheVariants as vote_of
+use Rattle.view_model.specs.Letters.{vote_in}
 use Rattle.bft_node.proofs.EventLemmas.{hears_none, hears_own, letter_of, no_letter, not_vote, quiet, view_ready, view_sound, vote_told, vote_view}
 use Rattle.bft_node.proofs.MakingLemmas.{IfOk-with}
 use Rattle.bft_node.proofs.live.Running.hears.Goals as goal

@@ -1,5 +1,5 @@
 use Rattle.std.proofs.Common.{arith, refl, subst, sym}
-use Rattle.node_model.specs.declared.act.Act.TheVariants as act_of
+use Rattle.view_model.specs.declared.act.Act.TheVariants as act_of
 use Rattle.bft_node.specs.Making.{GoesOn, IsStopped, Makes, Step, around}
 use Rattle.bft_node.proofs.EventLemmas.{extends_proposes, no_memory, propose_view, proposed_makes, proposed_round, proposes, unproposed_makes, view_ready}
 use Rattle.bft_node.proofs.MakingLemmas.{given_up, stopped}

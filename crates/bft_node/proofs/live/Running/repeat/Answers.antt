@@ -1,6 +1,6 @@
 use Rattle.std.proofs.Common.{[], None, Ok, ◌++◌, ◌∙◌, ap, sym}
 use Rattle.std.proofs.lemmas.List.{append-nil}
-use Rattle.node_model.specs.declared.act.Act.TheVariants as act_of
+use Rattle.view_model.specs.declared.act.Act.TheVariants as act_of
 use Rattle.node_model.specs.Restarts.{current, repeat_round}
 use Rattle.bft_node.specs.Making.{node_returns, place_in, view_in}
 use Rattle.bft_node.specs.Running.{as_found}

@@ -1,6 +1,6 @@
 use Rattle.std.proofs.Common.{false, true, ◌∙◌, ap, refl, subst, sym}
 use Rattle.std.proofs.lemmas.List.{append-nil}
-use Rattle.node_model.specs.declared.act.Act.TheVariants as act_of
+use Rattle.view_model.specs.declared.act.Act.TheVariants as act_of
 use Rattle.node_model.specs.Restarts.{Found, repeats_commit, repeats_votes}
 use Rattle.bft_node.specs.Making.{Makes, Step, around, node_returns, node_ways}
 use Rattle.bft_node.specs.NodeFaults.{TouchesNoDisk}

@@ -1,6 +1,6 @@
 use Rattle.std.proofs.Common.{Ok, Err, ap, refl, subst, sym, ◌∙◌}
 use Rattle.node_model.specs.Steps.{rounds}
-use Rattle.node_model.specs.declared.act.Act.TheVariants as act_of
+use Rattle.view_model.specs.declared.act.Act.TheVariants as act_of
 use Rattle.bft_node.specs.Making.{Step, node_ways}
 use Rattle.bft_node.specs.NodeFaults.{TouchesNoDisk}
 use Rattle.bft_node.proofs.MakingLemmas.{given_up, stopped, stopped_by, stopped_fault, stopped_more}

@@ -1,5 +1,5 @@
 use Rattle.std.proofs.Common.{refl}
-use Rattle.node_model.specs.declared.act.Act.TheVariants as act_of
+use Rattle.view_model.specs.declared.act.Act.TheVariants as act_of
 use Rattle.node_model.specs.Steps.{FromMember}
 use Rattle.bft_node.proofs.EventLemmas.{message_begun, no_memory, with_view}
 use Rattle.bft_node.proofs.MakingLemmas.{given_up, stopped}

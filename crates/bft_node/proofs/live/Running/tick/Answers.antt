@@ -1,5 +1,5 @@
 use Rattle.std.proofs.Common.{◌++◌, [], List, ℕ, refl, sym, ap, subst, ◌∙◌}
-use Rattle.node_model.specs.declared.act.Act.TheVariants as act_of
+use Rattle.view_model.specs.declared.act.Act.TheVariants as act_of
 use Rattle.node_model.specs.Steps.{Tick, rounds}
 use Rattle.bft_node.specs.Making.{node_ways}
 use Rattle.bft_node.specs.Signings.{Grows, KeysFit, keys_after, statements_in}

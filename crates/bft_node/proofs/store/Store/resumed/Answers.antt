@@ -1,7 +1,7 @@
 use Rattle.std.proofs.Common.{◌∙◌, ap, subst, sym}
 use Rattle.ord_types.specs.declared.lists.NoMemory.{NoMemory}
 use Rattle.ord_types.specs.declared.values.Place.{Place}
-use Rattle.node_model.specs.Acts.{View}
+use Rattle.view_model.specs.Acts.{View}
 use Rattle.bft_wal.proofs.Opens.{no_value}
 use Rattle.view_core.specs.Places.{IsPlace}
 use Rattle.view_core.specs.Resuming.{resumed}

@@ -1,6 +1,6 @@
 use Rattle.std.proofs.Common.{◌≡◌, Some, sym, ap, ◌∙◌}
 use Rattle.std.specs.Option.{option_map}
-use Rattle.node_model.specs.Acts.{commits}
+use Rattle.view_model.specs.Acts.{commits}
 use Rattle.view_core.proofs.DueLemmas.{delivery_none, delivery_some}
 use Rattle.view_core.specs.declared.held.Accepted.{Accepted}
 use Rattle.view_core.proofs.held.ViewState.delivery_due.Goals as goal

@@ -1,10 +1,10 @@
 use Rattle.std.proofs.Common.{◌≡◌, Option, ap, ◌∙◌, subst, IfOk, OnOk, OnErr}
 use Rattle.bft_wire.specs.declared.reason.Reason.{Reason}
 use Rattle.bft_wire.specs.declared.reason.Reason.TheVariants as reason
-use Rattle.node_model.specs.declared.act.Act.{Act}
-use Rattle.node_model.specs.declared.act.Act.TheVariants as act_of
-use Rattle.node_model.specs.Acts.{View, due}
-use Rattle.node_model.specs.Answers.{act_or, after_act, at_place, due_answer, first_reason, own_reasons, reason_or}
+use Rattle.view_model.specs.declared.act.Act.{Act}
+use Rattle.view_model.specs.declared.act.Act.TheVariants as act_of
+use Rattle.view_model.specs.Acts.{View, due}
+use Rattle.view_model.specs.Answers.{act_or, after_act, at_place, due_answer, first_reason, own_reasons, reason_or}
 use Rattle.view_core.proofs.AnswerLemmas.{answered, reason_is}
 use Rattle.view_core.proofs.FitLemmas.{IfOk-fits, due_answer_fits}
 use Rattle.view_core.proofs.held.ViewState.due.Goals as goal

@@ -1,7 +1,7 @@
 use Rattle.std.proofs.Common.{◌≡◌, ◌<◌, false, length, arith, sym, subst, rules, IsTrue}
 use Rattle.std.specs.List.{list_any}
-use Rattle.node_model.specs.Acts.{View}
-use Rattle.node_model.specs.Letters.{same_slot}
+use Rattle.view_model.specs.Acts.{View}
+use Rattle.view_model.specs.Letters.{same_slot}
 use Rattle.view_core.specs.Held.{is_held}
 use Rattle.view_core.proofs.HeldLemmas.{held_room, held_more}
 use Rattle.view_core.proofs.held.ViewState.keep.Goals as goal

@@ -1,9 +1,9 @@
 use Rattle.std.proofs.Common.{◌≡◌, true, false, Some, None, refl, ap, sym, ◌∙◌}
 use Rattle.std.specs.List.{list_any}
-use Rattle.node_model.specs.declared.letter.VoteMessage.TheVariants as message_of
-use Rattle.node_model.specs.declared.letter.Letter.{Letter}
-use Rattle.node_model.specs.Answers.{accepts_nothing, first_reason, is_new, is_repeat, stands_outside}
-use Rattle.node_model.specs.Letters.{same_slot}
+use Rattle.view_model.specs.declared.letter.VoteMessage.TheVariants as message_of
+use Rattle.view_model.specs.declared.letter.Letter.{Letter}
+use Rattle.view_model.specs.Answers.{accepts_nothing, first_reason, is_new, is_repeat, stands_outside}
+use Rattle.view_model.specs.Letters.{same_slot}
 use Rattle.view_core.proofs.AnswerLemmas.{inside_is_held, kept_new, kept_old, new_answer, new_from, not_new_outside, not_new_repeat, outside_answer, repeat_answer}
 use Rattle.view_core.proofs.held.ViewState.keep_prepare.Goals as goal
 

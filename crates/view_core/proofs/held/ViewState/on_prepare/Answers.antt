@@ -1,8 +1,8 @@
 use Rattle.std.proofs.Common.{◌≡◌, sym, subst}
-use Rattle.node_model.specs.declared.letter.VoteMessage.TheVariants as message_of
-use Rattle.node_model.specs.declared.letter.Letter.{Letter}
-use Rattle.node_model.specs.Acts.{View}
-use Rattle.node_model.specs.Answers.{accepts_nothing, after_act, kept_after, prepare_answer}
+use Rattle.view_model.specs.declared.letter.VoteMessage.TheVariants as message_of
+use Rattle.view_model.specs.declared.letter.Letter.{Letter}
+use Rattle.view_model.specs.Acts.{View}
+use Rattle.view_model.specs.Answers.{accepts_nothing, after_act, kept_after, prepare_answer}
 use Rattle.view_core.proofs.AnswerLemmas.{prepare_is, prepare_leaves}
 use Rattle.view_core.proofs.FitLemmas.{prepare_answer_fits}
 use Rattle.view_core.specs.Fits.{FitsAct}

@@ -2,10 +2,10 @@ use Rattle.std.proofs.Common.{◌≡◌, ℕ, cond, length, Option, Some, None, 
 use Rattle.std.proofs.lemmas.Bool.{eqb-true, eqb-false, le-leb, lt-leb}
 use Rattle.safety_model.specs.Blocks.{Block}
 use Rattle.bft_wire.specs.declared.reason.Reason.TheVariants as reason
-use Rattle.node_model.specs.declared.act.Act.TheVariants as act_of
-use Rattle.node_model.specs.Acts.{accept_act, proposal}
-use Rattle.node_model.specs.Answers.{act_or}
-use Rattle.node_model.specs.Checks.{is_next_block}
+use Rattle.view_model.specs.declared.act.Act.TheVariants as act_of
+use Rattle.view_model.specs.Acts.{accept_act, proposal}
+use Rattle.view_model.specs.Answers.{act_or}
+use Rattle.view_model.specs.Checks.{is_next_block}
 use Rattle.view_core.proofs.ProposalLemmas.{propose_refused, propose_empty, propose_made}
 use Rattle.view_core.proofs.held.ViewState.placed_proposal.Goals as goal
 

@@ -1,9 +1,9 @@
 use Rattle.std.proofs.Common.{◌≡◌, ◌++◌, false, sym, subst, IfOk}
 use Rattle.bft_wire.specs.declared.reason.Reason.TheVariants as reason
-use Rattle.node_model.specs.declared.act.Act.{Act}
-use Rattle.node_model.specs.declared.act.Act.TheVariants as act_of
-use Rattle.node_model.specs.Acts.{View, due}
-use Rattle.node_model.specs.Answers.{act_or, after_act, first_reason, is_new, message_reasons, reason_or, stands_outside}
+use Rattle.view_model.specs.declared.act.Act.{Act}
+use Rattle.view_model.specs.declared.act.Act.TheVariants as act_of
+use Rattle.view_model.specs.Acts.{View, due}
+use Rattle.view_model.specs.Answers.{act_or, after_act, first_reason, is_new, message_reasons, reason_or, stands_outside}
 use Rattle.view_core.proofs.AnswerLemmas.{inside_is_held, new_parts, vote_new, vote_old, kept_new, kept_old}
 use Rattle.view_core.proofs.held.ViewState.placed_vote.Goals as goal
 

@@ -1,6 +1,6 @@
 use Rattle.std.proofs.Common.{◌≡◌, subst, IfOk, OnOk, OnErr}
-use Rattle.node_model.specs.Acts.{View}
-use Rattle.node_model.specs.Answers.{after_act, propose_answer}
+use Rattle.view_model.specs.Acts.{View}
+use Rattle.view_model.specs.Answers.{after_act, propose_answer}
 use Rattle.view_core.proofs.AnswerLemmas.{answered}
 use Rattle.view_core.proofs.FitLemmas.{IfOk-fits, propose_fits}
 use Rattle.view_core.proofs.held.ViewState.propose.Goals as goal

@@ -1,6 +1,6 @@
 use Rattle.std.proofs.Common.{◌≡◌, false, None, rules, arith, ap, filter, ◌∙◌}
 use Rattle.std.proofs.lemmas.Fn.{filter_same}
-use Rattle.node_model.specs.Answers.{is_near, raised}
+use Rattle.view_model.specs.Answers.{is_near, raised}
 use Rattle.view_core.proofs.HeldLemmas.{held_at}
 use Rattle.view_core.proofs.held.ViewState.raise.Goals as goal
 

@@ -1,6 +1,6 @@
 use Rattle.std.proofs.Common.{◌≡◌, sym, ap, ◌∙◌, None}
 use Rattle.std.proofs.lemmas.Bool.{eq-eqb}
-use Rattle.node_model.specs.Answers.{first_reason, stands_outside}
+use Rattle.view_model.specs.Answers.{first_reason, stands_outside}
 use Rattle.view_core.proofs.AnswerLemmas.{refused_proposal}
 use Rattle.view_core.proofs.held.ViewState.refusal.Goals as goal
 
