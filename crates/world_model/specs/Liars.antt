@@ -63,7 +63,7 @@ proposal_of place v r =
 abbrev pub propose_on : {S T : Type 0} → Setting S T → ℕ → World S T → ℕ → ℕ → ℕ → Request → Option (Node S) → Turn (World S T)
 propose_on setting number w from to v r None = refuses number (codes "no core") w
 propose_on setting number w from to v r (Some node) =
-    sends number (codes "byz-propose") w from to (message_text (proposal_of (setting.returns.ways.place node.state) v r))
+    sends number (codes "byz-propose") w from to (message_text (proposal_of (setting.keeping.look node.state).place v r))
 
 abbrev pub propose_turn : {S T : Type 0} → Setting S T → ℕ → World S T → ℕ → ℕ → ℕ → Request → Turn (World S T)
 propose_turn setting number w from to v r = propose_on setting number w from to v r (longest w.nodes)

@@ -146,6 +146,7 @@ unfoldable pub sent_text : ℕ → List ℕ
 sent_text count = codes "sent " ++ decimal count ++ codes "\n"
 
 -- the closing line of a node: E is the configuration in force, V the view entered, L the greatest left for
-abbrev pub closing_line : {S : Type 0} → Ways S → Node S → List ℕ
-closing_line ways node =
-    node_text node.id (ways.place node.state).height (ways.place node.state).config.number (ways.view node.state).view (ways.view node.state).left
+abbrev pub closing_line : {S : Type 0} → (S → Core) → Node S → List ℕ
+closing_line look node =
+    let core : Core = look node.state in
+    node_text node.id core.place.height core.place.config.number core.view.view core.view.left

@@ -15,9 +15,9 @@ use Rattle.script.specs.declared.command.Range.{Range}
 use Rattle.script_play.specs.declared.ending.Ending.TheVariants.{TooManyFaulty}
 use Rattle.script_play.specs.Texts.{too_many_faulty_text}
 use Rattle.script_play.specs.Turns.{Turn}
-use Rattle.node_model.specs.Steps.{Event}
+use Rattle.node_model.specs.Entries.{Entry as Happened, Event, facts_of}
 use Rattle.world_model.specs.Pools.{answer, pool_after}
-use Rattle.world_model.specs.Worlds.{Setting, World, Node, Entry, Outcome, GoesOn, Stops, node_at, node_started, running_at, with_node, making, world_after, world_stopped, world_stopped_in, tick_of, entry, letter_from, marked, is_waiting}
+use Rattle.world_model.specs.Worlds.{Keeping, Setting, World, Node, Entry, Outcome, GoesOn, Stops, node_at, node_started, running_at, with_node, making, world_after, world_stopped, world_stopped_in, tick_of, entry, letter_from, marked, is_waiting}
 pub use Rattle.world_model.specs.Says.{goes_on, most_entries, ordinary, refuses, says, then_on, within_limit}
 use Rattle.world_model.specs.Liars.{as_liar, as_signer, lie_turn, propose_turn, seal_turn, vote_turn}
 use Rattle.world_model.specs.Texts.{genesis_text, tick_text, deliver_text, flush_text, answer_text, byzantine_text, closed_text, fact_text, show_text, sent_text, start_text, stop_at_text, stopped_text, closing_line}
@@ -26,12 +26,14 @@ use Rattle.world_model.specs.Texts.{genesis_text, tick_text, deliver_text, flush
 
 abbrev pub event_goes : {S T : Type 0} → Setting S T → ℕ → World S T → Node S → Event → Turn (World S T)
 event_goes setting number w node event =
-    within_limit number (flat_map (fact_text number) (making setting w node event).facts) (world_after setting w node (making setting w node event))
+    let made : List Happened = making setting w node event in
+    within_limit number (flat_map (fact_text number) (facts_of made)) (world_after setting w node made)
 
 -- one in which the node is stopped prints that alone
 abbrev pub event_by : {S T : Type 0} → Setting S T → ℕ → World S T → Node S → Event → Outcome → Turn (World S T)
 event_by setting number w node event GoesOn = event_goes setting number w node event
-event_by setting number w node event (Stops kept signed) = says (stopped_text number node.id) (world_stopped_in setting w node event kept signed)
+event_by setting number w node event (Stops cut) =
+    says (stopped_text number node.id) (world_stopped_in setting w node event cut)
 
 -- the next of the outcomes is that of this event
 abbrev pub first_outcome : List Outcome → Outcome
@@ -54,7 +56,7 @@ is_running id w = is_some (running_at id w.nodes)
 
 abbrev pub tick_at : {S T : Type 0} → Setting S T → ℕ → World S T → Option (Node S) → Turn (World S T)
 tick_at setting number w None = says [] w
-tick_at setting number w (Some node) = event_turn setting number w node (tick_of setting.returns.ways node)
+tick_at setting number w (Some node) = event_turn setting number w node (tick_of setting.keeping node)
 
 unfoldable pub ticks : {S T : Type 0} → Setting S T → ℕ → ℕ → ℕ → World S T → Turn (World S T)
 ticks setting number id zero w = says (if is_running id w then tick_text number id else []) w
@@ -143,8 +145,16 @@ first_config members =
       rotation = 0;
     }
 
-abbrev pub first_node : {S T : Type 0} → Setting S T → Config → List ℕ → ℕ → Node S
-first_node setting c byzantine id = record { id = id; state = setting.returns.ways.opens c byzantine id; pool = []; ledger = (genesis_block c, proof_of.Raft) ∷ []; runs = true; armed = false }
+abbrev pub first_node : {S : Type 0} → Keeping S → Config → ℕ → Node S
+first_node keeping c id =
+    record {
+      id = id;
+      state = keeping.opens c id;
+      pool = [];
+      ledger = (genesis_block c, proof_of.Raft) ∷ [];
+      runs = true;
+      armed = false;
+    }
 
 -- a Byzantine member has no node
 abbrev pub first_world : {S T : Type 0} → Setting S T → List Outcome → Config → List ℕ → World S T
@@ -152,7 +162,7 @@ first_world setting outcomes c byzantine =
     record {
       config = c;
       byzantine = byzantine;
-      nodes = map (first_node setting c byzantine) (filter (λ id. not (is_in id byzantine)) c.members);
+      nodes = map (first_node setting.keeping c) (filter (λ id. not (is_in id byzantine)) c.members);
       network = [];
       seals = [];
       told = setting.silent;
@@ -188,7 +198,7 @@ at_stopped number w id turn = at_found number w id (node_at id w.nodes) (λ node
 -- STOP, STOP AT A CALL, START: between two events a stop loses nothing but the pool and the votes that were kept
 
 abbrev pub stop_turn : {S T : Type 0} → Setting S T → ℕ → World S T → Node S → Turn (World S T)
-stop_turn setting number w node = says (stopped_text number node.id) (world_stopped setting w node [] [])
+stop_turn setting number w node = says (stopped_text number node.id) (world_stopped setting w node [])
 
 abbrev pub stop_at_turn : {S T : Type 0} → ℕ → World S T → Node S → Turn (World S T)
 stop_at_turn number w node =
@@ -227,7 +237,8 @@ turn_of setting outcomes (Some w) number command = goes_on (turn_in setting numb
 -- the closing line of a member
 abbrev pub closing_of_member : {S T : Type 0} → Setting S T → ℕ → Option (Node S) → List ℕ
 closing_of_member setting id None = byzantine_text id
-closing_of_member setting id (Some node) = if node.runs then closing_line setting.returns.ways node else closed_text id
+closing_of_member setting id (Some node) =
+    if node.runs then closing_line setting.keeping.look node else closed_text id
 
 -- the closing lines, by the members' order
 unfoldable pub closing_of : {S T : Type 0} → Setting S T → Option (World S T) → List ℕ
