@@ -188,7 +188,7 @@ module _ (b : Before) (made : List Entry) (block : Block) (texts : Texts) (blind
     accepted_as =
         behind made (Did next) (map (to_all (core_in b (made ++ Did next ∷ []))) (texts (place_of new) new.view))
         ∙ ap (λ (x : Core). made ++ Did next ∷ map (to_all x) (texts (place_of new) new.view))
-            (core-append b made (Did next ∷ []))
+        (core-append b made (Did next ∷ []))
         ∙ ap (λ (p : Place). made ++ Did next ∷ map (to_all core) (texts p new.view)) new_place
         ∙ ap (λ (w : View). made ++ Did next ∷ map (to_all core) (texts core.place w)) new_view
         ∙ ap (λ (l : List Message). made ++ Did next ∷ map (to_all core) l) (blind core.place core.view)
@@ -226,7 +226,7 @@ module _ (b : Before) (made : List Entry) (digest : List ℕ) (r : Running) (acc
   pub prepared_stopped : (IsTrue tells → IsKept r.store (now moments)) → (fault : NodeFault)
       → NeedsLimit tells (preparation (place_of r) r.view digest) (held_of r.store) fault
       → IsStopped b (made ++ does b.keys (duty_of.Prepare digest) (statements_of made) prepared_core) (statements_of made) accepts
-          tells after fault
+      tells after fault
   prepared_stopped kept fault needs =
       let here = kept_stopped b made (act_of.Prepare digest) r accepts tells moments after out
       (preparation (place_of r) r.view digest) prepared_deed_is prepared_deed h within kept fault needs in
@@ -247,7 +247,7 @@ module _ (b : Before) (made : List Entry) (digest : List ℕ) (r : Running) (acc
       behind made (Did prepared_deed_is)
       (commits b.keys (statements_of (made ++ Did prepared_deed_is ∷ [])) (core_in b (made ++ Did prepared_deed_is ∷ [])) digest)
       ∙ ap (λ (x : Core). made ++ Did prepared_deed_is ∷ commits b.keys (statements_of (made ++ Did prepared_deed_is ∷ [])) x digest)
-          (core-append b made (Did prepared_deed_is ∷ []))
+      (core-append b made (Did prepared_deed_is ∷ []))
       ∙ ap (λ (l : List (List ℕ)). made ++ Did prepared_deed_is ∷ commits b.keys l prepared_core digest) prepared_said
 
   module _ (new : Running) (told : Out) (k : Keeps (preparation (place_of r) r.view digest) r new out told) where
@@ -289,11 +289,11 @@ module _ {K : Type 0} (acc : K → Accepts) (b : Before) (made : List Entry) (di
       → (IsTrue tells → IsKept mid.store (now after)) → StandsAt (place_of mid) mid.view
       → IfErr result TouchesNoDisk
       → GoesOn result (λ told. Commits digest told mid new (acc last) last signings told_out last_out)
-          (λ fault. SignsAtMost (statement_at mid digest) signings)
+      (λ fault. SignsAtMost (statement_at mid digest) signings)
       → GoesOn result
-          (λ told. Tells b all told new (around (acc last) tells after last_out)
-              × (statements_of all ≡ statements_of made ++ statements_in signings))
-          (IsStopped b all (statements_of made ++ statements_in signings) (acc (keys_after old signings)) tells after)
+      (λ told. Tells b all told new (around (acc last) tells after last_out)
+      × (statements_of all ≡ statements_of made ++ statements_in signings))
+      (IsStopped b all (statements_of made ++ statements_in signings) (acc (keys_after old signings)) tells after)
   prepared_goes result last new last_out kept at no_disk commits =
       goes_on_with result _ _ _ _ _ commits no_disk
       (λ told m. (
@@ -337,7 +337,7 @@ module _ (b : Before) (made : List Entry) (block : Block) (cert : Cert) (r : Run
       (id : new.id ≡ mid.id) (store : new.store ≡ mid.store) (found : new.found ≡ mid.found)
       (view : new.view ≡ at_place (place_of mid) mid.view)
       (chain : IsChain accepts (config_of r.store) (held_of r.store).blocks
-          → IsChain accepts (config_of r.store) (held_of mid.store).blocks) where
+      → IsChain accepts (config_of r.store) (held_of mid.store).blocks) where
     mid_stands : place_of mid ≡ next_place delivered_core.place (block, Bft cert)
     mid_stands =
         delivered_place r mid block (Bft cert) k.still.config (ap (λ (x : Held). x.blocks) k.held)

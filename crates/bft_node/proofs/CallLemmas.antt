@@ -119,9 +119,9 @@ ok_only (Err e) P S Q f h = tt
 pub goes_tells : (b : Before) (result : Result Act NodeFault) (new : Running) (accepts : Accepts) (t u : Bool)
     (moments : List State) (out : Out) (made : List Entry) (signed all : List (List ℕ)) (last : Accepts) → u ≡ t
     → GoesOn result (λ told. Tells b made told new (around accepts t moments out) × (statements_of made ≡ all))
-        (IsStopped b made signed last t moments)
+    (IsStopped b made signed last t moments)
     → GoesOn result (λ told. Tells b made told new (around accepts u moments out) × (statements_of made ≡ all))
-        (IsStopped b made signed last t moments)
+    (IsStopped b made signed last t moments)
 goes_tells b result new accepts t u moments out made signed all last same h =
     goes_on result _ _ _ _ h
     (λ told x. (subst (λ (v : Bool). Tells b made told new (around accepts v moments out)) (sym same) x.0, x.1))
@@ -134,9 +134,9 @@ goes_as : (b : Before) (result : Result Act NodeFault) (new : Running) (a : Arou
     → GoesOn result (λ x. Tells b two x new a × (statements_of two ≡ all)) (IsStopped b two all last tells moments)
 goes_as b result new a one two signed all last tells moments same said h =
     subst (λ (l : List (List ℕ)). GoesOn result (λ x. Tells b two x new a × (statements_of two ≡ l))
-        (IsStopped b two l last tells moments)) said
+    (IsStopped b two l last tells moments)) said
     (subst (λ (l : List Entry). GoesOn result (λ x. Tells b l x new a × (statements_of l ≡ signed))
-        (IsStopped b l signed last tells moments)) same h)
+    (IsStopped b l signed last tells moments)) same h)
 
 -- ONE ACT
 
@@ -168,9 +168,9 @@ module _ {K : Type 0} (acc : K → Accepts) (keys : K) (told act : Act) (d : Dut
     (before after : List State) (out last : Out)
     (none : (k : Keys) (signed : List (List ℕ)) (c : Core) → statements_of (does k d signed c) ≡ []) where
   pub act_adds : AddsRule (acc keys) (λ k. does k d) result (Taken act) Telling (stage r tt t before out)
-        (stage new tt u after last)
+      (stage new tt u after last)
       → MakesRule acc (does_act told) result (Telling told) Telling (stage r keys t before out)
-          (stage new keys u after last) []
+      (stage new keys u after last) []
   act_adds adds = λ b made fit grows h.
       let one = after_rule (λ signed c. does b.keys d signed c) b made in
       let said : statements_of one ≡ statements_of made ++ [] =
@@ -255,7 +255,7 @@ all_from b made (Some d) some =
     append_assoc made more (all_due b.keys (statements_of (made ++ more)) (core_in b (made ++ more)))
     ∙ ap (λ (l : List (List ℕ)). made ++ (more ++ all_due b.keys l (core_in b (made ++ more)))) (statements-append made more)
     ∙ ap (λ (x : Core). made ++ (more ++ all_due b.keys (statements_of made ++ statements_of more) x))
-        (core-append b made more)
+    (core-append b made more)
 
 pub acts_as : (b : Before) (made : List Entry) (told : Act) → IsPlaced (core_in b made) → IsDue b made told
     → tells_act told ≡ true
@@ -270,7 +270,7 @@ none_after : (b : Before) (made : List Entry) (told : Act) → IsPlaced (core_in
 none_after b made told placed due none =
     ap (λ (l : List Entry). made ++ l) (again b.keys (statements_of made) (core_in b made) placed)
     ∙ ap (λ (o : Option Duty). made ++ for_duty b.keys (all_due b.keys) o (statements_of made) (core_in b made))
-        (sym due ∙ untold_act told none) ∙ append-nil made
+    (sym due ∙ untold_act told none) ∙ append-nil made
 
 untaken : (told : Act) (w : View) → tells_act told ≡ false → after_act told w ≡ after_act act_of.Kept w
 untaken (act_of.Accept b) w e = cc
@@ -281,31 +281,32 @@ untaken (act_of.Nothing r) w e = refl
 
 -- nothing is due
 pub nothing_made : {K : Type 0} (acc : K → Accepts) (told : Act) (s : Stage K) → tells_act told ≡ false
-    → StandsAt (place_of s.node) s.node.view → MakesRule acc all_due (Ok (tt {0})) (Telling told) Quiet s s []
+    → StandsAt (place_of s.node) s.node.view → MakesRule acc all_due (Ok (tt {0})) (Telling told) (λ _. Quiet) s s []
 nothing_made acc told s none at = λ b made fit grows t.
     let same = sym (none_after b made told (made_placed b made told s.node (outside acc s) t.makes at) t.due none) in
     let kept = makes_view b made told act_of.Kept s.node s.node (outside acc s) t.makes refl refl refl
-    (t.makes.view ∙ untaken told (view_in b made) none) in
-    (makes_as b made (after_rule (all_due b.keys) b made) act_of.Kept s.node (outside acc s) same kept,
-      ap (λ (l : List Entry). statements_of l) (sym same) ∙ sym (append-nil (statements_of made)))
+    (t.makes.view ∙ untaken told (view_in b made) none) in (
+      makes_as b made (after_rule (all_due b.keys) b made) act_of.Kept s.node (outside acc s) same kept,
+      ap (λ (l : List Entry). statements_of l) (sym same) ∙ sym (append-nil (statements_of made)),
+    )
 
 -- what follows an act
-goes_quiet : (b : Before) (result : Result (Unit {0}) NodeFault) (new : Running) (a : Around) (one two : List Entry)
+pub goes_quiet : (b : Before) (result : Result (Unit {0}) NodeFault) (new : Running) (a : Around) (one two : List Entry)
     (signed all : List (List ℕ)) (last final : Accepts) (t u : Bool) (moments : List State) → one ≡ two → signed ≡ all
     → last ≡ final → t ≡ u
     → GoesOn result (λ x. Makes b one act_of.Kept new a × (statements_of one ≡ signed))
-        (IsStopped b one signed last t moments)
+    (IsStopped b one signed last t moments)
     → GoesOn result (λ x. Makes b two act_of.Kept new a × (statements_of two ≡ all))
-        (IsStopped b two all final u moments)
+    (IsStopped b two all final u moments)
 goes_quiet b result new a one two signed all last final t u moments same said accepts tells h =
     subst (λ (v : Bool). GoesOn result (λ x. Makes b two act_of.Kept new a × (statements_of two ≡ all))
-        (IsStopped b two all final v moments)) tells
+    (IsStopped b two all final v moments)) tells
     (subst (λ (k : Accepts). GoesOn result (λ x. Makes b two act_of.Kept new a × (statements_of two ≡ all))
-        (IsStopped b two all k t moments)) accepts
+    (IsStopped b two all k t moments)) accepts
     (subst (λ (l : List (List ℕ)). GoesOn result (λ x. Makes b two act_of.Kept new a × (statements_of two ≡ l))
-        (IsStopped b two l last t moments)) said
+    (IsStopped b two l last t moments)) said
     (subst (λ (l : List Entry). GoesOn result (λ x. Makes b l act_of.Kept new a × (statements_of l ≡ signed))
-        (IsStopped b l signed last t moments)) same h)))
+    (IsStopped b l signed last t moments)) same h)))
 
 module _ {K : Type 0} (acc : K → Accepts) (told : Act) (some : tells_act told ≡ true) (s : Stage K)
     (at : StandsAt (place_of s.node) s.node.view) where
@@ -313,7 +314,7 @@ module _ {K : Type 0} (acc : K → Accepts) (told : Act) (some : tells_act told 
   pub act_failed : (one : Result Act NodeFault) (fault : NodeFault) (mid z : Stage K) (result : Result (Unit {0}) NodeFault)
       (signings : List (Signing K)) → one ≡ Err fault → IsErrAnd result (λ x. x ≡ fault) → z.moments ≡ mid.moments
       → MakesRule acc (does_act told) one (Telling told) Telling s mid signings
-      → MakesRule acc all_due result (Telling told) Quiet s z signings
+      → MakesRule acc all_due result (Telling told) (λ _. Quiet) s z signings
   act_failed (Ok x) fault mid z result signings is err moments makes = absurd (cc)
   act_failed (Err first) fault mid z result signings is err moments makes = λ b made fit grows t.
       let placed = made_placed b made told s.node (outside acc s) t.makes at in
@@ -333,8 +334,8 @@ module _ {K : Type 0} (acc : K → Accepts) (told : Act) (some : tells_act told 
   pub act_then : (one : Result Act NodeFault) (next : Act) (mid z : Stage K) (result : Result (Unit {0}) NodeFault)
       (xs ys : List (Signing K)) → one ≡ Ok next → mid.keys ≡ keys_after s.keys xs → mid.tells ≡ s.tells
       → MakesRule acc (does_act told) one (Telling told) Telling s mid xs
-      → MakesRule acc all_due result (Telling next) Quiet mid z ys
-      → MakesRule acc all_due result (Telling told) Quiet s z (xs ++ ys)
+      → MakesRule acc all_due result (Telling next) (λ _. Quiet) mid z ys
+      → MakesRule acc all_due result (Telling told) (λ _. Quiet) s z (xs ++ ys)
   act_then (Err first) next mid z result xs ys is keys tells makes more = absurd (cc)
   act_then (Ok x) next mid z result xs ys is keys tells makes more = λ b made fit grows t.
       let placed = made_placed b made told s.node (outside acc s) t.makes at in
@@ -350,3 +351,12 @@ module _ {K : Type 0} (acc : K → Accepts) (told : Act) (some : tells_act told 
       (sym (second_statements acc b.keys (statements_of made) (statements_of after) s.keys mid.keys xs ys keys one.1))
       (sym (second_accepts acc b.keys (statements_of made) (statements_of after) s.keys mid.keys xs ys keys one.1)) tells
       rest
+
+-- a call that adds entries, by another name
+pub adds_as : (b : Before) (result : Result (Unit {0}) NodeFault) (new : Running) (a : Around) (one two : List Entry)
+    (signed : List (List ℕ)) (accepts : Accepts) (tells : Bool) (moments : List State) → one ≡ two
+    → GoesOn result (λ x. Makes b one act_of.Kept new a) (IsStopped b one signed accepts tells moments)
+    → GoesOn result (λ x. Makes b two act_of.Kept new a) (IsStopped b two signed accepts tells moments)
+adds_as b result new a one two signed accepts tells moments same h =
+    subst (λ (l : List Entry). GoesOn result (λ x. Makes b l act_of.Kept new a)
+    (IsStopped b l signed accepts tells moments)) same h

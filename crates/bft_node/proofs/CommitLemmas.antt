@@ -81,7 +81,15 @@ use Rattle.bft_node.specs.Making.{
 }
 use Rattle.bft_node.specs.NodeFaults.{TouchesNoDisk}
 use Rattle.bft_node.specs.Running.{as_found, place_of}
-use Rattle.bft_node.specs.Signings.{EndsAt, Grows, KeysFit, Signing, keys_after, statements_in}
+use Rattle.bft_node.specs.Signings.{
+  EndsAt,
+  Grows,
+  KeysFit,
+  Signing,
+  keys_after,
+  signing,
+  statements_in,
+}
 use Rattle.bft_node.specs.Stores.{IsKept, config_of, held_of}
 use Rattle.bft_node.specs.declared.live.Out.{Out}
 use Rattle.bft_node.specs.declared.live.Running.{Running}
@@ -99,9 +107,6 @@ use Rattle.bft_node.proofs.MakingLemmas.{
 use Rattle.bft_node.proofs.ViewLemmas.{at_place-at, duty_in-vote_answer, me-kept_after}
 
 -- WHAT THE KEYS SIGNED
-
-abbrev pub signing : {K : Type 0} → List ℕ → Sig → K → Signing K
-signing statement sig keys = record { statement = statement; sig = sig; keys = keys }
 
 pub grows_last : {K : Type 0} (acc : K → Accepts) (k : K) (signings : List (Signing K)) → Grows acc k signings
     → KeepsAccepted (acc k) (acc (keys_after k signings))
@@ -128,7 +133,7 @@ front_one (x ∷ z ∷ xs) y f = absurd (cc (f.1))
 
 -- WHAT IS SENT in a step so far
 
-sent_core : (c d : Core) (ms : List Message) → after_entries (map (to_all c) ms) d ≡ d
+pub sent_core : (c d : Core) (ms : List Message) → after_entries (map (to_all c) ms) d ≡ d
 sent_core c d [] = refl
 sent_core c d (m ∷ ms) = sent_core c d ms
 
@@ -299,7 +304,7 @@ module _ {K : Type 0} (acc : K → Accepts) (b : Before) (made : List Entry) (di
   pub commit_stopped : (IsTrue tells → IsKept r.store (now moments)) → SignsAtMost (statement_at r digest) signings
       → (fault : NodeFault) → TouchesNoDisk fault
       → IsStopped b (with_commit b digest made) (signed ++ statements_in signings) (acc (keys_after old signings)) tells
-          moments fault
+      moments fault
   commit_stopped kept most fault no_disk =
       let keeps = grows_last acc old signings grows in
       let front = subst (λ s. IsFront (statements_in signings) (s ∷ [])) statement_is most in
@@ -309,16 +314,16 @@ module _ {K : Type 0} (acc : K → Accepts) (b : Before) (made : List Entry) (di
             (acc (keys_after old signings)) fault refl h kept keeps no_disk in
             let by_made : IsStopped b made signed (acc (keys_after old signings)) tells moments fault =
             subst (λ (l : List Entry). IsStopped b l (statements_of l) (acc (keys_after old signings)) tells moments
-                fault) (append-nil made) here in
+            fault) (append-nil made) here in
             subst (λ (l : List (List ℕ)). IsStopped b (with_commit b digest made) l (acc (keys_after old signings))
-                tells moments fault) (sym (append-nil signed) ∙ ap (λ (l : List (List ℕ)). signed ++ l) (sym none))
+            tells moments fault) (sym (append-nil signed) ∙ ap (λ (l : List (List ℕ)). signed ++ l) (sym none))
             (stopped_more b made (commits b.keys signed core digest) signed (acc (keys_after old signings)) tells
             moments fault by_made))
         | inr all ↦
             (let here = stopped_signed b made (commits b.keys signed core digest) act_of.Kept r
             (around (acc old) tells moments before) (acc (keys_after old signings)) fault refl h kept keeps no_disk in
             subst (λ (l : List (List ℕ)). IsStopped b (with_commit b digest made) l (acc (keys_after old signings))
-                tells moments fault) (said ∙ ap (λ (l : List (List ℕ)). signed ++ l) (sym all)) here)
+            tells moments fault) (said ∙ ap (λ (l : List (List ℕ)). signed ++ l) (sym all)) here)
       ]
 
   module _ (told : Act) (new : Running) (last : K) (after : Out) (at : StandsAt (place_of r) r.view)
@@ -374,5 +379,5 @@ module _ {K : Type 0} (acc : K → Accepts) (b : Before) (made : List Entry) (di
           makes = commit_made;
           due = due ∙ ap (λ (l : List (List ℕ)). duty (b.keys.accepts l) (committed b.keys signed core digest)) (sym said)
               ∙ ap (λ (x : Core). duty (accepts_in b (with_commit b digest made)) x)
-                  (sym (core-append b made (commits b.keys signed core digest)));
+              (sym (core-append b made (commits b.keys signed core digest)));
         }

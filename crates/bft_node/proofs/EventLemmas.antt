@@ -63,7 +63,7 @@ use Rattle.view_model.specs.Answers.{
 }
 use Rattle.view_model.specs.Letters.{Commit, PrePrepare, Prepare, letter_in, vote_in}
 use Rattle.node_model.specs.Cores.{Core, Found, after_event, after_letter}
-use Rattle.node_model.specs.Entries.{Entry, letter_brought, statements_of}
+use Rattle.node_model.specs.Entries.{Came, Entry, letter_brought, statements_of}
 use Rattle.node_model.specs.declared.event.Event.{Event}
 use Rattle.node_model.specs.declared.event.Event.TheVariants.{FromMember, Tick}
 use Rattle.node_model.specs.Steps.{
@@ -76,6 +76,8 @@ use Rattle.node_model.specs.Steps.{
   proposes,
   step,
 }
+use Rattle.node_model.specs.Laws.{IsPlaced}
+use Rattle.node_model.proofs.EndLemmas.{all_placed}
 use Rattle.view_core.specs.Places.{StandsAt}
 use Rattle.bft_node.specs.Calls.{TellsDue, after_rule, repeats_current}
 use Rattle.bft_node.specs.Held.{Held}
@@ -223,6 +225,11 @@ begun b r new a event told h mine id store found view =
       went = λ began judge keeps told. record { added = []; is = h.moments; each = tt };
     }
 
+-- what it holds of its view is of its place
+pub heard_placed : (event : Event) (accepts : Accepts) (r : Running) → StandsAt (place_of r) r.view
+    → IsPlaced (heard event accepts r)
+heard_placed event accepts r at = all_placed (Came event accepts ∷ []) (state_of r) at.height
+
 -- with the act that is due then
 pub begun_told : (b : Before) (r new : Running) (a : Around) (from : ℕ) (bytes : List ℕ) (told : Act) (accepts : Accepts)
     → accepts ≡ a.accepts → Begins b r a → r.view.me ≡ r.id
@@ -243,7 +250,7 @@ begun_told b r new a from bytes told accepts is h mine t =
 pub message_begun : (b : Before) (r : Running) (a : Around) (from : ℕ) (bytes : List ℕ) → Begins b r a
     → r.view.me ≡ r.id
     → Makes b (comes b.keys (FromMember from bytes) [] b.core) act_of.Kept
-        (record r { view = (heard (FromMember from bytes) a.accepts r).view }) a
+    (record r { view = (heard (FromMember from bytes) a.accepts r).view }) a
 message_begun b r a from bytes h mine =
     begun b r (record r { view = (heard (FromMember from bytes) a.accepts r).view }) a (FromMember from bytes) act_of.Kept h
     mine refl refl refl refl
@@ -384,7 +391,7 @@ vote_told r left from bytes message vote told accepts p s other here answer afte
       view = left_here ∙ ap (λ (w : View). after_act told w) (sym came);
       due = ap duty_in told_here ∙ duty_in-vote_answer accepts (state_of r) letter
           ∙ duty-same accepts accepts (record (state_of r) { view = kept }) (heard (FromMember from bytes) accepts r) refl
-              refl (sym came);
+          refl (sym came);
     }
 
 -- A PREPARE of another member
@@ -426,7 +433,7 @@ module _ (r : Running) (left : View) (from : ℕ) (message : Prepare) (told : Ac
           due = due-prepared accepts (place_of r) r.view from message told left s.at answer_here after_here digest e
               (as_found r.found)
               ∙ duty-same accepts accepts (record (state_of r) { view = kept })
-                  (heard (FromMember from bytes) accepts r) refl refl (sym prepare_came);
+              (heard (FromMember from bytes) accepts r) refl refl (sym prepare_came);
         }
 
     pub prepare_kept : ((digest : List ℕ) → told ≡ act_of.Prepare digest → ⊥)

@@ -222,7 +222,7 @@ module _ (b : Before) (made : List Entry) (told : Act) (r : Running) (accepts : 
       → (after_deed next (core_in b made)).view.me ≡ (view_in b made).me
       → (after_deed next (core_in b made)).found ≡ (core_in b made).found
       → (IsChain accepts (config_of r.store) (held_of r.store).blocks
-          → IsChain accepts (config_of r.store) (held_of mid.store).blocks)
+      → IsChain accepts (config_of r.store) (held_of mid.store).blocks)
       → Makes b (made ++ Did next ∷ []) act_of.Kept new (around accepts tells after last)
   made_kept mid new last k id store found place view me still chain =
       makes_more b made (Did next ∷ []) told act_of.Kept r new (around accepts tells moments out)

@@ -228,10 +228,13 @@ limit_more : (tells : Bool) (held : Held) (deeds more : List Deed) (fault : Node
     → HasLimit tells held deeds fault → HasLimit tells held (deeds ++ more) fault
 limit_more tells held deeds more node_of.Closed h = tt
 limit_more tells held deeds more (node_of.Limit n) h =
-    let below : h.0 ≤ length deeds = omega (arith, slice_get_within deeds h.0 h.1 h.2) in
-    (h.0, h.1, get-append deeds more h.0 h.1 h.2,
+    let below : h.0 ≤ length deeds = omega (arith, slice_get_within deeds h.0 h.1 h.2) in (
+      h.0,
+      h.1,
+      get-append deeds more h.0 h.1 h.2,
       subst (λ (l : List Deed). NeedsMore tells n h.1 (with_deeds l held))
-          (sym (take-append-le h.0 deeds more below)) h.3)
+          (sym (take-append-le h.0 deeds more below)) h.3,
+    )
 limit_more tells held deeds more node_of.NoMemory h = tt
 limit_more tells held deeds more node_of.Disk h = omega (arith, length-append deeds more, h)
 limit_more tells held deeds more node_of.Sign h = tt
@@ -241,10 +244,13 @@ pub limit_of : (tells : Bool) (held there : Held) (deeds : List Deed) (deed : De
     → there ≡ with_deeds deeds held → NeedsLimit tells deed there fault
     → HasLimit tells held (deeds ++ deed ∷ []) fault
 limit_of tells held there deeds deed node_of.Closed e h = tt
-limit_of tells held there deeds deed (node_of.Limit n) e h =
-    (length deeds, deed, get-seam deeds [] deed,
-      subst (λ (x : Held). NeedsMore tells n deed x)
-          (e ∙ ap (λ (l : List Deed). with_deeds l held) (sym (take-append_seam deeds (deed ∷ [])))) h)
+limit_of tells held there deeds deed (node_of.Limit n) e h = (
+  length deeds,
+  deed,
+  get-seam deeds [] deed,
+  subst (λ (x : Held). NeedsMore tells n deed x)
+      (e ∙ ap (λ (l : List Deed). with_deeds l held) (sym (take-append_seam deeds (deed ∷ [])))) h,
+)
 limit_of tells held there deeds deed node_of.NoMemory e h = tt
 limit_of tells held there deeds deed node_of.Disk e h = omega (arith, length-append deeds (deed ∷ []))
 limit_of tells held there deeds deed node_of.Sign e h = tt

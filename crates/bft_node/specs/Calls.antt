@@ -33,14 +33,14 @@ use Rattle.bft_node.specs.Making.{
   core_in,
   duty_in,
 }
-use Rattle.bft_node.specs.Running.{place_of}
+use Rattle.bft_node.specs.Running.{IsReady, place_of}
 use Rattle.bft_node.specs.Signings.{Grows, KeysFit, Signing, keys_after, statements_in}
 use Rattle.bft_node.specs.declared.live.Out.{Out}
 use Rattle.bft_node.specs.declared.live.Running.{Running}
 use Rattle.bft_node.specs.declared.node_fault.NodeFault.{NodeFault}
 
--- where a call begins or ends: the node, its keys, whether its disk tells, the disk's moments, and what the step
--- told
+-- where a call begins or ends: the node, its keys, whether its disk tells, the disk's moments, and what the
+-- step told
 pub record Stage (K : Type 0) : Type 0 where
   pub node : Running
   pub keys : K
@@ -65,8 +65,8 @@ abbrev pub Phase : Type 1
 Phase = Before → List Entry → Running → Around → Type 0
 
 -- nothing is told that is still to be done
-abbrev pub Quiet : {T : Type 0} → T → Phase
-Quiet x b made r a = Makes b made act_of.Kept r a
+abbrev pub Quiet : Phase
+Quiet b made r a = Makes b made act_of.Kept r a
 
 -- this act was told, whether or not it is the one that is due
 abbrev pub Taken : Act → Phase
@@ -76,18 +76,27 @@ Taken told b made r a = Makes b made told r a
 abbrev pub Telling : Act → Phase
 Telling told b made r a = Tells b made told r a
 
--- A CALL MAKES A RULE of each step so far that stands so, and leaves it so; or it was given up while it made it. The
--- keys of the definition say what these signed.
-abbrev pub MakesRule : {K T : Type 0} → (K → Acceptance) → (Keys → Rule) → Result T NodeFault → Phase → (T → Phase)
-    → Stage K → Stage K → List (Signing K) → Type 0
+-- A CALL MAKES A RULE of each step so far that stands so, and leaves it so; or it was given up while it made it.
+-- The keys of the definition say what these signed.
+abbrev pub MakesRule : {K T : Type 0} → (K → Acceptance) → (Keys → Rule) → Result T NodeFault → Phase
+    → (T → Phase) → Stage K → Stage K → List (Signing K) → Type 0
 MakesRule accepts rule result starts ends old new signings =
     (b : Before) (made : List Entry) → KeysFit accepts b.keys (statements_of made) old.keys signings
     → Grows accepts old.keys signings → starts b made old.node (outside accepts old)
     → GoesOn result
-        (λ x. ends x b (after_rule (rule b.keys) b made) new.node (outside accepts new)
-            × (statements_of (after_rule (rule b.keys) b made) ≡ statements_of made ++ statements_in signings))
-        (IsStopped b (after_rule (rule b.keys) b made) (statements_of made ++ statements_in signings)
-            (accepts (keys_after old.keys signings)) old.tells new.moments)
+    (λ x. ends x b (after_rule (rule b.keys) b made) new.node (outside accepts new)
+    × (statements_of (after_rule (rule b.keys) b made)
+    ≡ statements_of made ++ statements_in signings))
+    (IsStopped b (after_rule (rule b.keys) b made) (statements_of made ++ statements_in signings)
+    (accepts (keys_after old.keys signings)) old.tells new.moments)
+
+-- the same of a call that writes nothing, over any disk on which the node is ready
+abbrev pub MakesUnwritten : {K : Type 0} → (K → Acceptance) → (Keys → Rule) → Result (Unit {0}) NodeFault
+    → Running → K → Out → Running → K → Out → List (Signing K) → Type 0
+MakesUnwritten accepts rule result old keys out new now last signings =
+    (tells : Bool) (moments : List State) → IsReady tells moments old
+    → MakesRule accepts rule result Quiet (λ _. Quiet) (stage old keys tells moments out)
+    (stage new now tells moments last) signings
 
 -- one that signs nothing
 abbrev pub AddsRule : {T : Type 0} → Acceptance → (Keys → Rule) → Result T NodeFault → Phase → (T → Phase)
@@ -95,7 +104,7 @@ abbrev pub AddsRule : {T : Type 0} → Acceptance → (Keys → Rule) → Result
 AddsRule accepts rule result starts ends old new =
     (b : Before) (made : List Entry) → starts b made old.node (outside (λ _. accepts) old)
     → GoesOn result (λ x. ends x b (after_rule (rule b.keys) b made) new.node (outside (λ _. accepts) new))
-        (IsStopped b (after_rule (rule b.keys) b made) (statements_of made) accepts old.tells new.moments)
+    (IsStopped b (after_rule (rule b.keys) b made) (statements_of made) accepts old.tells new.moments)
 
 -- A call makes the step of an event, from what stood before it.
 abbrev pub MakesStep : {K T : Type 0} → (K → Acceptance) → Event → Result T NodeFault → Stage K → Stage K
@@ -104,10 +113,10 @@ MakesStep accepts event result old new signings =
     (b : Before) → KeysFit accepts b.keys [] old.keys signings → Grows accepts old.keys signings
     → Begins b old.node (outside accepts old)
     → GoesOn result
-        (λ x. Makes b (step b.keys b.core event) act_of.Kept new.node (outside accepts new)
-            × (statements_of (step b.keys b.core event) ≡ statements_in signings))
-        (IsStopped b (step b.keys b.core event) (statements_in signings) (accepts (keys_after old.keys signings))
-            old.tells new.moments)
+    (λ x. Makes b (step b.keys b.core event) act_of.Kept new.node (outside accepts new)
+    × (statements_of (step b.keys b.core event) ≡ statements_in signings))
+    (IsStopped b (step b.keys b.core event) (statements_in signings)
+    (accepts (keys_after old.keys signings)) old.tells new.moments)
 
 -- WHAT IS TOLD
 

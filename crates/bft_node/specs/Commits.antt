@@ -14,7 +14,7 @@ use Rattle.view_model.specs.Letters.{Commit}
 use Rattle.node_model.specs.Steps.{commit_message}
 use Rattle.bft_node.specs.Making.{IsFront, sent_of, sent_to_others}
 use Rattle.bft_node.specs.Running.{place_of}
-use Rattle.bft_node.specs.Signings.{Signing, statements_in}
+use Rattle.bft_node.specs.Signings.{Signing, signing, statements_in}
 use Rattle.bft_node.specs.declared.live.Out.{Out}
 use Rattle.bft_node.specs.declared.live.Running.{Running}
 
@@ -36,7 +36,7 @@ pub record Votes (accepts : Accepts) (place : Place) (before : View) (letter : L
 -- the one signing, and the Commit of it to all; it counts as any other
 pub record Commits {K : Type 0} (digest : List ℕ) (told : Act) (old new : Running) (accepts : Accepts) (keys : K) (signings : List (Signing K)) (before after : Out) : Type 0 where
   pub sig : Sig
-  pub signed : signings ≡ record { statement = statement_at old digest; sig = sig; keys = keys } ∷ []
+  pub signed : signings ≡ signing (statement_at old digest) sig keys ∷ []
   pub id : new.id ≡ old.id
   pub store : new.store ≡ old.store
   pub found : new.found ≡ old.found

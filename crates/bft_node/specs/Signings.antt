@@ -12,6 +12,9 @@ pub record Signing (K : Type 0) : Type 0 where
   pub sig : Sig
   pub keys : K
 
+abbrev pub signing : {K : Type 0} → List ℕ → Sig → K → Signing K
+signing statement sig keys = record { statement = statement; sig = sig; keys = keys }
+
 abbrev pub statements_in : {K : Type 0} → List (Signing K) → List (List ℕ)
 statements_in signings = map (λ (s : Signing _). s.statement) signings
 

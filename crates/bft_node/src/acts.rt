@@ -24,7 +24,7 @@ ghost use Rattle.bft_node.specs.Commits.{Commits, SignsAtMost, commit_at, statem
 ghost use Rattle.bft_node.specs.Making.{GoesOn};
 ghost use Rattle.bft_node.specs.NodeFaults.{HasNodeCause, TouchesNoDisk, counts};
 ghost use Rattle.bft_node.specs.Running.{IsReady, IsSame, IsSound, state_of};
-ghost use Rattle.bft_node.specs.Signings.{Signs};
+ghost use Rattle.bft_node.specs.Signings.{Signs, signing};
 
 use crate::NodeFault;
 use crate::live::{Out, Running};
@@ -43,13 +43,14 @@ impl Running {
         ensures ready { (tells : Bool) (moments : Items State)
             → IsReady tells moments self.old → IsReady tells moments self.new }
         ensures fits { IfOk result FitsAct }
-        ensures told { IfOk result (λ told. TellsDue (V.accepts keys.now) (state_of self.old) told self.old self.new) }
+        ensures told { IfOk result
+            (λ told. TellsDue (V.accepts keys.now) (state_of self.old) told self.old self.new) }
     {
         self.view.due(self.store.ledger.place(), keys)
     }
 
-    /// An acceptance that is due: it is made durable, and a Prepare goes to all. The answer is the next act that is
-    /// due.
+    /// An acceptance that is due: it is made durable, and a Prepare goes to all. The answer is the next act that
+    /// is due.
     fn accept<D: Disk, V: Verifier>(
         &mut self,
         block: Block,
@@ -81,8 +82,8 @@ impl Running {
     fn signed_commit<K: Signer>(&self, digest: Digest, keys: &mut K) -> Result<Commit, NodeFault>
         ensures fits { IfOk result (λ commit. FitsSig commit.sig) }
         ensures signs { Signs K.sign_gives result keys.old keys.new (λ signings. GoesOn result
-            (λ commit. (commit ≡ commit_at self.now digest commit.sig) × (signings
-                ≡ record { statement = statement_at self.now digest; sig = commit.sig; keys = keys.new } ∷ []))
+            (λ commit. (commit ≡ commit_at self.now digest commit.sig)
+            × (signings ≡ signing (statement_at self.now digest) commit.sig keys.new ∷ []))
             (λ _. signings ≡ [])) }
         ensures later { K.faults keys.old ≤ K.faults keys.new }
         ensures no_disk { IfErr result TouchesNoDisk }
@@ -103,8 +104,8 @@ impl Running {
         })
     }
 
-    /// Signs a Commit of the digest and sends it to all; the own one counts as any other. The answer is the act that
-    /// is due then.
+    /// Signs a Commit of the digest and sends it to all; the own one counts as any other. The answer is the act
+    /// that is due then.
     pub(crate) fn commit<K: Signer + Verifier>(
         &mut self,
         digest: Digest,
@@ -118,7 +119,8 @@ impl Running {
             → IsReady tells moments self.old → IsReady tells moments self.new }
         ensures fits { IfOk result FitsAct }
         ensures signs { Signs K.sign_gives result keys.old keys.new (λ signings. GoesOn result
-            (λ told. Commits digest told self.old self.new (K.accepts keys.new) keys.new signings out.old out.new)
+            (λ told. Commits digest told self.old self.new (K.accepts keys.new) keys.new signings out.old
+            out.new)
             (λ _. SignsAtMost (statement_at self.old digest) signings)) }
         ensures later { K.faults keys.old ≤ K.faults keys.new }
         ensures no_disk { IfErr result TouchesNoDisk }
@@ -132,8 +134,8 @@ impl Running {
         Ok(told)
     }
 
-    /// A preparation that is due: it is made durable before the Commit is signed. The answer is the next act that is
-    /// due.
+    /// A preparation that is due: it is made durable before the Commit is signed. The answer is the next act that
+    /// is due.
     fn prepare<D: Disk, K: Signer + Verifier>(
         &mut self,
         digest: Digest,
@@ -207,7 +209,8 @@ impl Running {
             (stage self.old keys.old (D.tells disk.old) (D.moments disk.old) out.old)
             (stage self.new keys.new (D.tells disk.new) (D.moments disk.new) out.new)) }
         ensures due { IfOk result (λ next. IsToldDue (K.accepts keys.new) next self.new) }
-        ensures fewer { IfOk result (λ next. IsTrue (tells_act told) → still_with next self.new < still_with told self.old) }
+        ensures fewer { IfOk result
+            (λ next. IsTrue (tells_act told) → still_with next self.new < still_with told self.old) }
         ensures tells { D.tells disk.new ≡ D.tells disk.old }
         ensures later { (D.faults disk.old ≤ D.faults disk.new) × (K.faults keys.old ≤ K.faults keys.new) }
         ensures cause { HasNodeCause (counts (D.faults disk.old) (K.faults keys.old))
@@ -235,7 +238,7 @@ impl Running {
         ensures same { OnOk result (IsSame self.old self.new) }
         ensures ready { OnOk result (IsReady (D.tells disk.new) (D.moments disk.new) self.new) }
         ensures makes { Signs K.sign_gives result keys.old keys.new (MakesRule K.accepts
-            all_due result (Telling told) Quiet
+            all_due result (Telling told) (λ _. Quiet)
             (stage self.old keys.old (D.tells disk.old) (D.moments disk.old) out.old)
             (stage self.new keys.new (D.tells disk.new) (D.moments disk.new) out.new)) }
         ensures tells { D.tells disk.new ≡ D.tells disk.old }

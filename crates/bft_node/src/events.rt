@@ -53,7 +53,8 @@ impl Running {
         ensures same { OnOk result (IsSame self.old self.new) }
         ensures ready { OnOk result (IsReady (D.tells disk.new) (D.moments disk.new) self.new) }
         ensures makes { (accepts : SomeAccepts)
-            → AddsRule accepts (λ _ _ c. proposes (Some block) c) result (Taken (act_of.Accept block)) Quiet
+            → AddsRule accepts (λ _ _ c. proposes (Some block) c) result (Taken (act_of.Accept block))
+            (λ _. Quiet)
             (stage self.old tt (D.tells disk.old) (D.moments disk.old) out.old)
             (stage self.new tt (D.tells disk.new) (D.moments disk.new) out.new) }
         ensures tells { D.tells disk.new ≡ D.tells disk.old }
@@ -77,7 +78,7 @@ impl Running {
         requires { IsReady (D.tells disk.old) (D.moments disk.old) self.old }
         ensures same { OnOk result (IsSame self.old self.new) }
         ensures ready { OnOk result (IsReady (D.tells disk.new) (D.moments disk.new) self.new) }
-        ensures makes { AddsRule (V.accepts keys.now) (λ _. own_rule (Tick offer)) result (Quiet tt) Quiet
+        ensures makes { AddsRule (V.accepts keys.now) (λ _. own_rule (Tick offer)) result Quiet (λ _. Quiet)
             (stage self.old tt (D.tells disk.old) (D.moments disk.old) out.old)
             (stage self.new tt (D.tells disk.new) (D.moments disk.new) out.new) }
         ensures tells { D.tells disk.new ≡ D.tells disk.old }
@@ -132,7 +133,8 @@ impl Running {
         ensures told { IfOk result (λ told. (bytes : Items ℕ)
             → message_in bytes ≡ Some (message_of.Prepare message.now)
             → TellsDue (V.accepts keys.now)
-                (after_event (FromMember from bytes) (V.accepts keys.now) (state_of self.old)) told self.old self.new) }
+            (after_event (FromMember from bytes) (V.accepts keys.now) (state_of self.old))
+            told self.old self.new) }
     {
         let told = self
             .view
@@ -143,8 +145,8 @@ impl Running {
         self.told(keys)
     }
 
-    /// What a message of another member brings: the act that is due with it. One of a kind that has no rule brings
-    /// nothing.
+    /// What a message of another member brings: the act that is due with it. One of a kind that has no rule
+    /// brings nothing.
     fn hears<V: Verifier>(&mut self, from: u32, message: Message, keys: &V) -> Result<Act, NoMemory>
         requires sound { IsSound self.old }
         requires fits { FitsMessage message }
@@ -155,7 +157,8 @@ impl Running {
         ensures fits { IfOk result FitsAct }
         ensures told { IfOk result (λ told. (bytes : Items ℕ) → message_in bytes ≡ Some message
             → TellsDue (V.accepts keys.now)
-                (after_event (FromMember from bytes) (V.accepts keys.now) (state_of self.old)) told self.old self.new) }
+            (after_event (FromMember from bytes) (V.accepts keys.now) (state_of self.old))
+            told self.old self.new) }
     {
         if from == self.id {
             return self.told(keys);
@@ -184,7 +187,8 @@ impl Running {
             → IsReady tells moments self.old → IsReady tells moments self.new }
         ensures fits { IfOk result FitsAct }
         ensures told { IfOk result (λ told. TellsDue (V.accepts keys.now)
-            (after_event (FromMember from bytes.now) (V.accepts keys.now) (state_of self.old)) told self.old self.new) }
+            (after_event (FromMember from bytes.now) (V.accepts keys.now) (state_of self.old))
+            told self.old self.new) }
     {
         let message = spelled(self.alloc, bytes)?;
         match message {

@@ -49,7 +49,8 @@ fn may_come_next<V: Verifier>(
 ) -> bool
     requires { IsPlace place.now }
     ensures spelled { IsTrue result → HasEntrySpelling (block.now, Bft cert.now) }
-    ensures next { IsTrue result → next_refusal (V.accepts keys.now) place.now (block.now, Bft cert.now) ≡ None }
+    ensures next { IsTrue result
+        → next_refusal (V.accepts keys.now) place.now (block.now, Bft cert.now) ≡ None }
 {
     let is_bft = match place.config.kind {
         Kind::Bft => true,
@@ -77,10 +78,11 @@ impl Running {
         ensures ready { OnOk result (IsReady (D.tells disk.new) (D.moments disk.new) self.new) }
         ensures keeps { OnOk result (Keeps (acceptance (place_of self.old) self.old.view block)
             self.old self.new out.old out.new) }
-        ensures any_moment { (accepts : SomeAccepts) → KeepsWithin (acceptance (place_of self.old) self.old.view block)
-            self.old accepts (D.tells disk.old) (D.moments disk.old) (D.moments disk.new) }
-        ensures limit { IfErr result (NeedsLimit (D.tells disk.old) (acceptance (place_of self.old) self.old.view block)
-            (held_of self.old.store)) }
+        ensures any_moment { (accepts : SomeAccepts)
+            → KeepsWithin (acceptance (place_of self.old) self.old.view block) self.old accepts (D.tells disk.old)
+            (D.moments disk.old) (D.moments disk.new) }
+        ensures limit { IfErr result (NeedsLimit (D.tells disk.old)
+            (acceptance (place_of self.old) self.old.view block) (held_of self.old.store)) }
         ensures tells { D.tells disk.new ≡ D.tells disk.old }
         ensures later { D.faults disk.old ≤ D.faults disk.new }
         ensures cause { HasNodeCause (counts (D.faults disk.old) 0) (counts (D.faults disk.new) 0) result }
@@ -117,10 +119,11 @@ impl Running {
         ensures ready { OnOk result (IsReady (D.tells disk.new) (D.moments disk.new) self.new) }
         ensures keeps { OnOk result (Keeps (preparation (place_of self.old) self.old.view digest)
             self.old self.new out.old out.new) }
-        ensures any_moment { (accepts : SomeAccepts) → KeepsWithin (preparation (place_of self.old) self.old.view digest)
-            self.old accepts (D.tells disk.old) (D.moments disk.old) (D.moments disk.new) }
-        ensures limit { IfErr result (NeedsLimit (D.tells disk.old) (preparation (place_of self.old) self.old.view digest)
-            (held_of self.old.store)) }
+        ensures any_moment { (accepts : SomeAccepts)
+            → KeepsWithin (preparation (place_of self.old) self.old.view digest) self.old accepts (D.tells disk.old)
+            (D.moments disk.old) (D.moments disk.new) }
+        ensures limit { IfErr result (NeedsLimit (D.tells disk.old)
+            (preparation (place_of self.old) self.old.view digest) (held_of self.old.store)) }
         ensures tells { D.tells disk.new ≡ D.tells disk.old }
         ensures later { D.faults disk.old ≤ D.faults disk.new }
         ensures cause { HasNodeCause (counts (D.faults disk.old) 0) (counts (D.faults disk.new) 0) result }
@@ -151,7 +154,8 @@ impl Running {
         out: &mut Out,
     ) -> Result<(), NodeFault>
         requires { IsReady (D.tells disk.old) (D.moments disk.old) self.old }
-        ensures kept { IsTrue (D.tells disk.new) → OnOk result (IsKept self.new.store (now (D.moments disk.new))) }
+        ensures kept { IsTrue (D.tells disk.new)
+            → OnOk result (IsKept self.new.store (now (D.moments disk.new))) }
         ensures chain { OnOk result
             (IsChain (V.accepts keys.now) (config_of self.old.store) (held_of self.old.store).blocks
             → IsChain (V.accepts keys.now) (config_of self.old.store) (held_of self.new.store).blocks) }
@@ -160,8 +164,8 @@ impl Running {
             self.old self.new out.old out.new) }
         ensures any_moment { KeepsWithin (Delivers self.old.view.me block (Bft cert))
             self.old (V.accepts keys.now) (D.tells disk.old) (D.moments disk.old) (D.moments disk.new) }
-        ensures limit { IfErr result (NeedsLimit (D.tells disk.old) (Delivers self.old.view.me block (Bft cert))
-            (held_of self.old.store)) }
+        ensures limit { IfErr result (NeedsLimit (D.tells disk.old)
+            (Delivers self.old.view.me block (Bft cert)) (held_of self.old.store)) }
         ensures tells { D.tells disk.new ≡ D.tells disk.old }
         ensures later { D.faults disk.old ≤ D.faults disk.new }
         ensures cause { HasNodeCause (counts (D.faults disk.old) 0) (counts (D.faults disk.new) 0) result }

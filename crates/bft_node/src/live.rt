@@ -21,7 +21,8 @@ pub struct Post {
     pub message: Rc<Bytes>,
 }
 
-/// A block that was delivered: the ids of its requests, and the configuration that it brings, if it brings one.
+/// A block that was delivered: the ids of its requests, and the configuration that it brings, if it brings
+/// one.
 #[derive(Drop)]
 pub struct Done {
     pub ids: List<ReqId>,
@@ -51,7 +52,8 @@ impl Out {
     }
 }
 
-/// What an opening found: the block that was accepted in a view at a height, and whether it was prepared there.
+/// What an opening found: the block that was accepted in a view at a height, and whether it was prepared
+/// there.
 #[derive(Drop)]
 pub struct Found {
     pub(crate) config: u64,
@@ -61,8 +63,8 @@ pub struct Found {
     pub(crate) is_prepared: bool,
 }
 
-/// A node as it runs: what it holds durable, what it holds of its view, and what its opening found, until a tick
-/// takes it.
+/// A node as it runs: what it holds durable, what it holds of its view, and what its opening found, until a
+/// tick takes it.
 #[derive(Drop)]
 pub struct Running {
     pub(crate) alloc: Global,

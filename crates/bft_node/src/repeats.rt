@@ -6,7 +6,7 @@ ghost use Rattle.gate_log.specs.Disk.{State};
 ghost use Rattle.view_model.specs.Leading.{leader};
 ghost use Rattle.node_model.specs.Cores.{Found as FoundOnce};
 ghost use Rattle.node_model.specs.Steps.{commits, is_current, repeated_votes};
-ghost use Rattle.bft_node.specs.Calls.{MakesRule, Quiet, repeats_current, stage};
+ghost use Rattle.bft_node.specs.Calls.{MakesUnwritten, repeats_current};
 ghost use Rattle.bft_node.specs.Making.{sent_of, sent_to_others};
 ghost use Rattle.bft_node.specs.NodeFaults.{HasNodeCause, TouchesNoDisk, counts};
 ghost use Rattle.bft_node.specs.Running.{IsReady, IsSame, IsSound, as_found, place_of};
@@ -21,7 +21,8 @@ use std::mem;
 use view_core::Act;
 
 impl Running {
-    /// Whether the node is a member of a BFT configuration, inside its view, and stands where the opening found it.
+    /// Whether the node is a member of a BFT configuration, inside its view, and stands where the opening found
+    /// it.
     fn is_current(&self, found: &Found) -> bool
         requires { IsSound self.now }
         ensures { (f : FoundOnce) → as_found (Some found.now) ≡ Some f
@@ -77,9 +78,8 @@ impl Running {
         ensures sound { IsSound self.new }
         ensures ready { (tells : Bool) (moments : Items State)
             → IsReady tells moments self.old → IsReady tells moments self.new }
-        ensures makes { Signs K.sign_gives result keys.old keys.new (λ signings. (tells : Bool) (moments : Items State)
-            → IsReady tells moments self.old → MakesRule K.accepts (repeats_current (as_found (Some found.now))) result (Quiet tt) Quiet
-                (stage self.old keys.old tells moments out.old) (stage self.new keys.new tells moments out.new) signings) }
+        ensures makes { Signs K.sign_gives result keys.old keys.new (MakesUnwritten K.accepts
+            (repeats_current (as_found (Some found.now))) result self.old keys.old out.old self.new keys.new out.new) }
         ensures later { K.faults keys.old ≤ K.faults keys.new }
         ensures no_disk { IfErr result TouchesNoDisk }
         ensures cause { HasNodeCause (counts 0 (K.faults keys.old)) (counts 0 (K.faults keys.new)) result }
@@ -110,9 +110,8 @@ impl Running {
         ensures sound { IsSound self.new }
         ensures ready { (tells : Bool) (moments : Items State)
             → IsReady tells moments self.old → IsReady tells moments self.new }
-        ensures makes { Signs K.sign_gives result keys.old keys.new (λ signings. (tells : Bool) (moments : Items State)
-            → IsReady tells moments self.old → MakesRule K.accepts (λ keys signed c. commits keys signed c digest) result (Quiet tt) Quiet
-                (stage self.old keys.old tells moments out.old) (stage self.new keys.new tells moments out.new) signings) }
+        ensures makes { Signs K.sign_gives result keys.old keys.new (MakesUnwritten K.accepts
+            (λ keys signed c. commits keys signed c digest) result self.old keys.old out.old self.new keys.new out.new) }
         ensures later { K.faults keys.old ≤ K.faults keys.new }
         ensures no_disk { IfErr result TouchesNoDisk }
         ensures cause { HasNodeCause (counts 0 (K.faults keys.old)) (counts 0 (K.faults keys.new)) result }
@@ -135,9 +134,8 @@ impl Running {
         ensures sound { IsSound self.new }
         ensures ready { (tells : Bool) (moments : Items State)
             → IsReady tells moments self.old → IsReady tells moments self.new }
-        ensures makes { Signs K.sign_gives result keys.old keys.new (λ signings. (tells : Bool) (moments : Items State)
-            → IsReady tells moments self.old → MakesRule K.accepts (repeats_current (as_found self.old.found)) result (Quiet tt) Quiet
-                (stage (record self.old { found = None }) keys.old tells moments out.old) (stage self.new keys.new tells moments out.new) signings) }
+        ensures makes { Signs K.sign_gives result keys.old keys.new (MakesUnwritten K.accepts
+            (repeats_current (as_found self.old.found)) result (record self.old { found = None }) keys.old out.old self.new keys.new out.new) }
         ensures later { K.faults keys.old ≤ K.faults keys.new }
         ensures no_disk { IfErr result TouchesNoDisk }
         ensures cause { HasNodeCause (counts 0 (K.faults keys.old)) (counts 0 (K.faults keys.new)) result }

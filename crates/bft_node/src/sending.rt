@@ -90,7 +90,7 @@ impl Running {
         requires fits { FitsBlock block.now }
         ensures sent { OnOk result (map sent_of out.new.sends ≡ map sent_of out.old.sends
             ++ sent_to_others self.now (preprepare_message (place_of self.now) self.now.view block.now
-                ∷ prepare_message (place_of self.now) self.now.view block.now ∷ [])) }
+            ∷ prepare_message (place_of self.now) self.now.view block.now ∷ [])) }
         ensures facts { out.new.facts ≡ out.old.facts }
         ensures done { out.new.done ≡ out.old.done }
     {

@@ -19,7 +19,19 @@ ghost use Rattle.node_model.specs.Entries.{
 };
 ghost use Rattle.bft_node.specs.Crashes.{Within};
 ghost use Rattle.bft_node.specs.Held.{with_deed};
-ghost use Rattle.bft_node.specs.Stores.{IsKept, IsStoredAs, OnRefusal, OthersStay, WriteAnswers, config_of, held_of, ledger_limit, log_limit, ledger_write_fault, log_write_fault};
+ghost use Rattle.bft_node.specs.Stores.{
+  IsKept,
+  IsStoredAs,
+  OnRefusal,
+  OthersStay,
+  WriteAnswers,
+  config_of,
+  held_of,
+  ledger_limit,
+  log_limit,
+  ledger_write_fault,
+  log_write_fault,
+};
 
 use crate::{Store, StoreFault};
 use bft_wal::WalRecord;
@@ -63,11 +75,11 @@ impl Store {
         requires spelled { HasRecordSpelling entry.now }
 
         ensures kept { IsTrue (D.tells disk.old) → OnOk result (IsKept self.new (now (D.moments disk.new))) }
-        ensures added { (deed : SomeDeed) → IsStoredAs deed entry.now → OnOk result (held_of self.new ≡ with_deed deed
-            (held_of self.old)) }
+        ensures added { (deed : SomeDeed) → IsStoredAs deed entry.now
+            → OnOk result (held_of self.new ≡ with_deed deed (held_of self.old)) }
         ensures ledger { self.new.ledger ≡ self.old.ledger }
-        ensures any_moment { (deed : SomeDeed) (accepts : SomeAccepts) → IsStoredAs deed entry.now → IsTrue (D.tells disk.old)
-            → IsChain accepts (config_of self.old) (held_of self.old).blocks
+        ensures any_moment { (deed : SomeDeed) (accepts : SomeAccepts) → IsStoredAs deed entry.now
+            → IsTrue (D.tells disk.old) → IsChain accepts (config_of self.old) (held_of self.old).blocks
             → Went (Within accepts (config_of self.old) (deed ∷ []) (held_of self.old))
             (D.moments disk.old) (D.moments disk.new) }
         ensures others { IsTrue (D.tells disk.old) → Went (OthersStay (now (D.moments disk.old)))
@@ -84,8 +96,8 @@ impl Store {
         }
     }
 
-    /// Makes an acceptance durable: of a block, in a view, at a number, under the configuration of this number. After `Disk`
-    /// the store has to be opened again.
+    /// Makes an acceptance durable: of a block, in a view, at a number, under the configuration of this number.
+    /// After `Disk` the store has to be opened again.
     pub fn accept<D: Disk>(
         &mut self,
         alloc: Global,
@@ -101,14 +113,16 @@ impl Store {
         requires block { HasBlockSpelling block }
 
         ensures kept { IsTrue (D.tells disk.old) → OnOk result (IsKept self.new (now (D.moments disk.new))) }
-        ensures added { (id : ℕ) → OnOk result (held_of self.new ≡ with_deed (Accepting id config view number block)
-            (held_of self.old)) }
+        ensures added { (id : ℕ) → OnOk result
+            (held_of self.new ≡ with_deed (Accepting id config view number block) (held_of self.old)) }
         ensures ledger { self.new.ledger ≡ self.old.ledger }
 
-        // A crash at any moment of the call opens to what was held with this deed or without. No other file changes.
+        // A crash at any moment of the call opens to what was held with this deed or without. No other file
+        // changes.
         ensures any_moment { (id : ℕ) (accepts : SomeAccepts) → IsTrue (D.tells disk.old)
             → IsChain accepts (config_of self.old) (held_of self.old).blocks
-            → Went (Within accepts (config_of self.old) (Accepting id config view number block ∷ []) (held_of self.old))
+            → Went (Within accepts (config_of self.old) (Accepting id config view number block ∷ [])
+            (held_of self.old))
             (D.moments disk.old) (D.moments disk.new) }
         ensures others { IsTrue (D.tells disk.old) → Went (OthersStay (now (D.moments disk.old)))
             (D.moments disk.old) (D.moments disk.new) }
@@ -143,12 +157,13 @@ impl Store {
         requires numbers { IsNumber config × IsNumber view × IsNumber number }
 
         ensures kept { IsTrue (D.tells disk.old) → OnOk result (IsKept self.new (now (D.moments disk.new))) }
-        ensures added { (id : ℕ) → OnOk result (held_of self.new ≡ with_deed (Preparing id config view number digest)
-            (held_of self.old)) }
+        ensures added { (id : ℕ) → OnOk result
+            (held_of self.new ≡ with_deed (Preparing id config view number digest) (held_of self.old)) }
         ensures ledger { self.new.ledger ≡ self.old.ledger }
         ensures any_moment { (id : ℕ) (accepts : SomeAccepts) → IsTrue (D.tells disk.old)
             → IsChain accepts (config_of self.old) (held_of self.old).blocks
-            → Went (Within accepts (config_of self.old) (Preparing id config view number digest ∷ []) (held_of self.old))
+            → Went (Within accepts (config_of self.old) (Preparing id config view number digest ∷ [])
+            (held_of self.old))
             (D.moments disk.old) (D.moments disk.new) }
         ensures others { IsTrue (D.tells disk.old) → Went (OthersStay (now (D.moments disk.old)))
             (D.moments disk.old) (D.moments disk.new) }
@@ -167,7 +182,8 @@ impl Store {
         self.append_record(alloc, disk, &entry)
     }
 
-    /// Makes a delivery durable: of a block that may come next, with its certificate. All else is as of `accept`.
+    /// Makes a delivery durable: of a block that may come next, with its certificate. All else is as of
+    /// `accept`.
     pub fn deliver<D: Disk, V: Verifier>(
         &mut self,
         alloc: Global,
@@ -178,7 +194,8 @@ impl Store {
     ) -> Result<(), StoreFault>
         requires kept { IsTrue (D.tells disk.old) → IsKept self.old (now (D.moments disk.old)) }
         requires spelled { HasEntrySpelling (block, Bft cert) }
-        requires next { next_refusal (V.accepts verifier.now) (place_after (config_of self.old) (held_of self.old).blocks) (block, Bft cert) ≡ None }
+        requires next { next_refusal (V.accepts verifier.now)
+            (place_after (config_of self.old) (held_of self.old).blocks) (block, Bft cert) ≡ None }
 
         ensures kept { IsTrue (D.tells disk.old) → OnOk result (IsKept self.new (now (D.moments disk.new))) }
         ensures added { (id : ℕ) → OnOk result (held_of self.new ≡ with_deed (Delivering id block (Bft cert))
@@ -186,14 +203,16 @@ impl Store {
         ensures config { config_of self.new ≡ config_of self.old }
         ensures log { self.new.wal ≡ self.old.wal }
         ensures same { OnErr result ((held_of self.new).blocks ≡ (held_of self.old).blocks) }
-        ensures chain { OnOk result (IsChain (V.accepts verifier.now) (config_of self.old) (held_of self.old).blocks
+        ensures chain { OnOk result
+            (IsChain (V.accepts verifier.now) (config_of self.old) (held_of self.old).blocks
             → IsChain (V.accepts verifier.now) (config_of self.old) (held_of self.new).blocks) }
 
         // So it is for all that the verifier accepts, and where more is accepted.
         ensures any_moment { (id : ℕ) (accepts : SomeAccepts) → IsTrue (D.tells disk.old)
             → KeepsAccepted (V.accepts verifier.now) accepts
             → IsChain (V.accepts verifier.now) (config_of self.old) (held_of self.old).blocks
-            → Went (Within accepts (config_of self.old) (Delivering id block (Bft cert) ∷ []) (held_of self.old))
+            → Went (Within accepts (config_of self.old) (Delivering id block (Bft cert) ∷ [])
+            (held_of self.old))
             (D.moments disk.old) (D.moments disk.new) }
         ensures others { IsTrue (D.tells disk.old) → Went (OthersStay (now (D.moments disk.old)))
             (D.moments disk.old) (D.moments disk.new) }
