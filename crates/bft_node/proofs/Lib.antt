@@ -11,7 +11,7 @@ mod Opened
 mod PlaceLemmas
 mod RepeatLemmas
 mod Resumed
-mod RoundLemmas
+mod RuleLemmas
 mod Running
 mod SigningLemmas
 mod SpelledLemmas

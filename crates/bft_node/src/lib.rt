@@ -33,6 +33,7 @@ pub use live::{Done, Out, Post, Setup};
 pub use member::Node;
 pub use node_model::Event;
 pub use node_fault::NodeFault;
+pub use node_model::Event;
 pub use nodes::Nodes;
 pub use own_nodes::OwnNodes;
 pub use store::Store;
