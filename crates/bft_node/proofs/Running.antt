@@ -2,9 +2,8 @@
 use Rattle.std.proofs.Common.{◌≡◌, ◌≢◌, inl, inr, ℕ, suc, ◌+◌, List, [], ◌∷◌, ◌++◌, length, take, Ok, sym, ◌∙◌, ap, subst, arith, length-append}
 use Rattle.std.proofs.lemmas.List.{take-append-le}
 use Rattle.ord_types.specs.declared.values.Block.{Block}
-use Rattle.ord_types.specs.declared.values.Cert.{Cert}
 use Rattle.ord_types.specs.declared.values.Config.{Config}
-use Rattle.ord_types.specs.declared.values.Proof.TheVariants.{Bft}
+use Rattle.ord_types.specs.declared.values.Proof.{Proof}
 use Rattle.gate_log.specs.Disk.{File, State, MayLeave}
 use Rattle.gate_log.specs.Runs.{OnlyIn}
 use Rattle.gate_log.proofs.Going.{then_went, went_to}
@@ -19,7 +18,7 @@ use Rattle.bft_wal.proofs.Opens.{opens_log}
 use Rattle.block_ledger.specs.Chains.{IsChain}
 use Rattle.block_ledger.specs.Ledgers.{IsWithOrWithout}
 use Rattle.block_ledger.proofs.Keeping.{kept_crash, kept_others}
-use Rattle.node_model.specs.Deeds.{Deed, Delivers}
+use Rattle.node_model.specs.Entries.{Deed, Delivers}
 use Rattle.bft_node.specs.Crashes.{Image, Opens, OpensAfter, Within}
 use Rattle.bft_node.specs.Held.{Held, with_deed, with_deeds}
 use Rattle.bft_node.specs.Laws.{KeptStoreOpens, KeptStoreStays, RunsAreWithin, RunsGoOn}
@@ -83,13 +82,19 @@ log_within accepts store deed entry before state stored kept chain only image cr
     ]
 
 -- a block more, at each moment
-pub ledger_within : (old new : Accepts) (store : Store) (id : ℕ) (b : Block) (cert : Cert) (before state : State) → KeepsAccepted old new → IsKept store before → IsChain old (config_of store) (held_of store).blocks
-    → OnlyIn 2 (IsWithOrWithout old (config_of store) (held_of store).blocks (b, Bft cert)) before state → Within new (config_of store) (Delivers id b cert ∷ []) (held_of store) state
-ledger_within old new store id b cert before state keeps kept chain only image crash =
-    let log = wal_crash store.wal before kept.log (image 0) (subst (λ (f : File). MayLeave f (image 0)) (only.others 0 zero_not) (crash 0 (omega arith))) in
+pub ledger_within : (old new : Accepts) (store : Store) (id : ℕ) (b : Block) (proof : Proof) (before state : State)
+    → KeepsAccepted old new → IsKept store before → IsChain old (config_of store) (held_of store).blocks
+    → OnlyIn 2 (IsWithOrWithout old (config_of store) (held_of store).blocks (b, proof)) before state
+    → Within new (config_of store) (Delivers id b proof ∷ []) (held_of store) state
+ledger_within old new store id b proof before state keeps kept chain only image crash =
+    let c : Config = config_of store in
+    let log = wal_crash store.wal before kept.log (image 0)
+    (subst (λ (f : File). MayLeave f (image 0)) (only.others 0 zero_not) (crash 0 (omega arith))) in
     elim (only.crash (image 2) (crash 2 (omega arith)) chain) [
-      | inl without ↦ no_deed new (config_of store) (Delivers id b cert) (held_of store) image (record { ledger = stands_more old new keeps (config_of store) _ (image 2) without; log = log })
-      | inr one_more ↦ one_deed new (config_of store) (Delivers id b cert) (held_of store) image (record { ledger = stands_more old new keeps (config_of store) _ (image 2) one_more; log = log })
+      | inl without ↦ no_deed new c (Delivers id b proof) (held_of store) image
+          (record { ledger = stands_more old new keeps c _ (image 2) without; log = log })
+      | inr one_more ↦ one_deed new c (Delivers id b proof) (held_of store) image
+          (record { ledger = stands_more old new keeps c _ (image 2) one_more; log = log })
     ]
 
 pub log_others : (P : List ℕ → Type 0) (before state : State) → OnlyIn 0 P before state → OthersStay before state

@@ -1,5 +1,5 @@
 -- What a step of a node answers and leaves.
-use Rattle.std.specs.Prelude.{◌≡◌, ◌≤◌, ◌++◌, ℕ, Bool, List, None, length, map, IsTrue, Result, Ok, Err}
+use Rattle.std.specs.Prelude.{◌≡◌, ◌≤◌, ◌++◌, Bool, List, [], None, length, map, IsTrue, ℕ, Result, Ok, Err}
 use Rattle.gate_log.specs.Disk.{State, now}
 use Rattle.gate_log.specs.Runs.{Went}
 use Rattle.signer_edge.specs.Accepts.{Accepts as Acceptance}
@@ -12,6 +12,7 @@ use Rattle.bft_node.specs.Making.{IsFront, done_in, sends_of, sent_of}
 use Rattle.bft_node.specs.NodeFaults.{HasLimit}
 use Rattle.bft_node.specs.Recovering.{Holds, KeepsFront, KeepsSigned}
 use Rattle.bft_node.specs.Running.{chain_of, state_of}
+use Rattle.bft_node.specs.Signings.{Grows, KeysFit, Signing, keys_after, statements_in}
 use Rattle.bft_node.specs.Stores.{held_of}
 use Rattle.bft_node.specs.declared.node_fault.NodeFault.{NodeFault}
 use Rattle.bft_node.specs.declared.live.Out.{Out}
@@ -74,3 +75,11 @@ pub record TakesStep (keys : Keys) (old new : Running) (event : Event) (signed :
   pub leaves : IsTrue tells → StepsLeave old (step_from keys old event) signed first accepts before after
   pub holds : IsTrue tells → StepsHold old new first accepts before after result
   pub limit : StepsLimit old new (step_from keys old event) tells result
+
+-- So it is by any keys of the definition that say what these did and answered, where what they accepted stays so.
+abbrev pub TakesBy : {K : Type 0} → (K → Acceptance) → K → Running → Running → Event → Result Out NodeFault → Bool
+    → List State → List State → List (Signing K) → Type 0
+TakesBy accepts keys old new event result tells before after signings =
+    (model : Keys) → KeysFit accepts model [] keys signings → Grows accepts keys signings
+    → TakesStep model old new event (statements_in signings) (accepts keys) (accepts (keys_after keys signings))
+        result tells before after

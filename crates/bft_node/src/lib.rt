@@ -28,7 +28,7 @@ mod tests;
 mod write;
 
 pub use fault::{OpenFault, StoreFault};
-pub use laws::{deeds_are_found, stored_deeds_stand};
+pub use laws::{deeds_are_found, nodes_are_found, stored_deeds_stand};
 pub use live::{Done, Event, Out, Post, Setup};
 pub use member::Node;
 pub use node_fault::NodeFault;
