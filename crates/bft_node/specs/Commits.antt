@@ -4,7 +4,6 @@ use Rattle.ord_types.specs.declared.values.Place.{Place}
 use Rattle.ord_types.specs.declared.values.Sig.{Sig}
 use Rattle.signer_edge.specs.Accepts.{Accepts}
 use Rattle.signer_edge.specs.Statements.{commit_text}
-use Rattle.bft_wire.specs.declared.message.Message.{Message}
 use Rattle.bft_wire.specs.declared.message.Message.TheVariants as wire
 use Rattle.view_model.specs.declared.act.Act.{Act}
 use Rattle.view_model.specs.declared.letter.VoteMessage.TheVariants as vote_of
@@ -12,10 +11,8 @@ use Rattle.view_model.specs.declared.letter.Letter.{Letter}
 use Rattle.view_model.specs.Acts.{View}
 use Rattle.view_model.specs.Answers.{after_vote, at_place, vote_answer}
 use Rattle.view_model.specs.Letters.{Commit}
-use Rattle.node_model.specs.Entries.{others}
-use Rattle.node_model.specs.Entries as entries
 use Rattle.node_model.specs.Steps.{commit_message}
-use Rattle.bft_node.specs.Making.{IsFront, Sent, sends_of, sent_of}
+use Rattle.bft_node.specs.Making.{IsFront, sent_of, sent_to_others}
 use Rattle.bft_node.specs.Running.{place_of}
 use Rattle.bft_node.specs.Signings.{Signing, statements_in}
 use Rattle.bft_node.specs.declared.live.Out.{Out}
@@ -35,11 +32,6 @@ own_letter id commit = record { from = id; message = vote_of.Commit commit }
 pub record Votes (accepts : Accepts) (place : Place) (before : View) (letter : Letter) (told : Act) (left : View) : Type 0 where
   pub answer : told ≡ vote_answer accepts place (at_place place before) letter
   pub after : left ≡ after_vote accepts place before letter
-
--- what these messages to all others send
-abbrev pub sent_to_others : Running → List Message → List Sent
-sent_to_others r messages =
-    sends_of (map (λ m. entries.Sent (others (place_of r).config.members r.id) m) messages)
 
 -- the one signing, and the Commit of it to all; it counts as any other
 pub record Commits {K : Type 0} (digest : List ℕ) (told : Act) (old new : Running) (accepts : Accepts) (keys : K) (signings : List (Signing K)) (before after : Out) : Type 0 where

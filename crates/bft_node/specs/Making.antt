@@ -28,6 +28,7 @@ use Rattle.signer_edge.specs.Accepts.{Accepts as Acceptance}
 use Rattle.signer_edge.specs.Signing.{KeepsAccepted}
 use Rattle.block_ledger.specs.Chains.{IsChain, Entry as Stored}
 use Rattle.bft_wire.specs.Spelling.{message_text}
+use Rattle.bft_wire.specs.declared.message.Message.{Message}
 use Rattle.chan_config.specs.Blocks.{change_in}
 use Rattle.view_model.specs.declared.act.Act.{Act}
 use Rattle.view_model.specs.declared.act.Act.TheVariants as act_of
@@ -35,7 +36,7 @@ use Rattle.view_model.specs.Acts.{View}
 use Rattle.view_model.specs.Answers.{after_act}
 use Rattle.node_model.specs.Cores.{Core, after_entries}
 use Rattle.node_model.specs.Entries as entries
-use Rattle.node_model.specs.Entries.{Entry, deeds_of, facts_of, posts_of, statements_of, stored_of}
+use Rattle.node_model.specs.Entries.{Entry, deeds_of, facts_of, others, posts_of, statements_of, stored_of}
 use Rattle.node_model.specs.Steps.{Duty, Accept, Prepare, Deliver, Keys, duty}
 use Rattle.bft_node.specs.Crashes.{Image, IsCrash, Opens, Within}
 use Rattle.bft_node.specs.Held.{Held, with_deeds}
@@ -64,6 +65,11 @@ text_of post = record { to = post.to; bytes = message_text post.message }
 -- the bytes that a list of entries sends
 abbrev pub sends_of : List Entry → List Sent
 sends_of made = map text_of (posts_of made)
+
+-- what these messages to all others send
+abbrev pub sent_to_others : Running → List Message → List Sent
+sent_to_others r messages =
+    sends_of (map (λ m. entries.Sent (others (place_of r).config.members r.id) m) messages)
 
 -- of a delivered block the ids of its requests, and the configuration that it brings
 abbrev pub done_of : Stored → Done

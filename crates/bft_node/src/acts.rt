@@ -1,15 +1,30 @@
-//! What a running node does: the acts that its view tells.
-ghost use Rattle.std.specs.Prelude.{◌≡◌, ◌≤◌, Bool, List as Items, [], ◌∷◌, ◌++◌, IfErr, IfOk, OnOk};
+//! What a running node does: the acts that are due, one after another.
+ghost use Rattle.std.specs.Prelude.{◌≡◌, ◌≤◌, ◌<◌, Bool, List as Items, [], ◌∷◌, IfErr, IfOk, IsTrue, OnOk};
 ghost use Rattle.ord_types.specs.Lengths.{FitsSig};
 ghost use Rattle.gate_log.specs.Disk.{State};
 ghost use Rattle.view_model.specs.declared.act.Act.TheVariants as act_of;
-ghost use Rattle.node_model.specs.Steps.{makes_accepted, makes_delivered, makes_prepared, rounds, votes};
+ghost use Rattle.node_model.specs.Steps.{all_due, does};
+ghost use Rattle.node_model.specs.Steps as duty_of;
 ghost use Rattle.view_core.specs.Fits.{FitsAct};
+ghost use Rattle.bft_node.specs.Calls.{
+  AddsRule,
+  DoesDuty,
+  IsToldDue,
+  MakesRule,
+  Quiet,
+  Taken,
+  Telling,
+  TellsDue,
+  does_act,
+  stage,
+  still_with,
+  tells_act,
+};
 ghost use Rattle.bft_node.specs.Commits.{Commits, SignsAtMost, commit_at, statement_at};
-ghost use Rattle.bft_node.specs.Making.{Around, Before, Ends, GoesOn, HasNoneToAccept, IsStopped, Makes, Step, Tells, accepted_in, around, is_delivering, node_ways, prepared_in};
+ghost use Rattle.bft_node.specs.Making.{GoesOn};
 ghost use Rattle.bft_node.specs.NodeFaults.{HasNodeCause, TouchesNoDisk, counts};
-ghost use Rattle.bft_node.specs.Running.{IsReady, IsSame, IsSound};
-ghost use Rattle.bft_node.specs.Signings.{Grows, KeysFit, Signs, keys_after, statements_in};
+ghost use Rattle.bft_node.specs.Running.{IsReady, IsSame, IsSound, state_of};
+ghost use Rattle.bft_node.specs.Signings.{Signs};
 
 use crate::NodeFault;
 use crate::live::{Out, Running};
@@ -25,14 +40,16 @@ impl Running {
         requires { IsSound self.old }
         ensures same { IsSame self.old self.new }
         ensures sound { IsSound self.new }
-        ensures ready { (tells : Bool) (moments : Items State) → IsReady tells moments self.old → IsReady tells moments self.new }
+        ensures ready { (tells : Bool) (moments : Items State)
+            → IsReady tells moments self.old → IsReady tells moments self.new }
         ensures fits { IfOk result FitsAct }
-        ensures makes { IfOk result (λ told. (b : Before) (m : Step) (a : Around) → a.accepts ≡ V.accepts keys.now → Makes b m act_of.Kept self.old a → Tells b m told self.new a) }
+        ensures told { IfOk result (λ told. TellsDue (V.accepts keys.now) (state_of self.old) told self.old self.new) }
     {
         self.view.due(self.store.ledger.place(), keys)
     }
 
-    /// An acceptance that is due: it is made durable, and a Prepare goes to all. The answer is the next act that is due.
+    /// An acceptance that is due: it is made durable, and a Prepare goes to all. The answer is the next act that is
+    /// due.
     fn accept<D: Disk, V: Verifier>(
         &mut self,
         block: Block,
@@ -44,7 +61,12 @@ impl Running {
         ensures same { OnOk result (IsSame self.old self.new) }
         ensures ready { OnOk result (IsReady (D.tells disk.new) (D.moments disk.new) self.new) }
         ensures fits { IfOk result FitsAct }
-        ensures makes { (b : Before) (m : Step) → Makes b m (act_of.Accept block) self.old (around (V.accepts keys.now) (D.tells disk.old) (D.moments disk.old) out.old) → GoesOn result (λ told. Tells b (makes_accepted node_ways block [] m) told self.new (around (V.accepts keys.now) (D.tells disk.new) (D.moments disk.new) out.new)) (λ fault. IsStopped b (makes_accepted node_ways block [] m) m.signed (V.accepts keys.now) (D.tells disk.old) (D.moments disk.new) fault) }
+        ensures makes { AddsRule (V.accepts keys.now) (λ keys. does keys (duty_of.Accept block)) result
+            (Taken (act_of.Accept block)) Telling
+            (stage self.old tt (D.tells disk.old) (D.moments disk.old) out.old)
+            (stage self.new tt (D.tells disk.new) (D.moments disk.new) out.new) }
+        ensures next { IfOk result (λ next. DoesDuty (V.accepts keys.now) (duty_of.Accept block)
+            (act_of.Accept block) next self.old self.new) }
         ensures tells { D.tells disk.new ≡ D.tells disk.old }
         ensures later { D.faults disk.old ≤ D.faults disk.new }
         ensures cause { HasNodeCause (counts (D.faults disk.old) 0) (counts (D.faults disk.new) 0) result }
@@ -58,7 +80,10 @@ impl Running {
     /// Signs the Commit of the digest where the node stands.
     fn signed_commit<K: Signer>(&self, digest: Digest, keys: &mut K) -> Result<Commit, NodeFault>
         ensures fits { IfOk result (λ commit. FitsSig commit.sig) }
-        ensures signs { Signs K.sign_gives result keys.old keys.new (λ signings. GoesOn result (λ commit. (commit ≡ commit_at self.now digest commit.sig) × (signings ≡ record { statement = statement_at self.now digest; sig = commit.sig; keys = keys.new } ∷ [])) (λ _. signings ≡ [])) }
+        ensures signs { Signs K.sign_gives result keys.old keys.new (λ signings. GoesOn result
+            (λ commit. (commit ≡ commit_at self.now digest commit.sig) × (signings
+                ≡ record { statement = statement_at self.now digest; sig = commit.sig; keys = keys.new } ∷ []))
+            (λ _. signings ≡ [])) }
         ensures later { K.faults keys.old ≤ K.faults keys.new }
         ensures no_disk { IfErr result TouchesNoDisk }
         ensures cause { HasNodeCause (counts 0 (K.faults keys.old)) (counts 0 (K.faults keys.new)) result }
@@ -78,8 +103,8 @@ impl Running {
         })
     }
 
-    /// Signs a Commit of the digest and sends it to all; the own one counts as any other. The answer is the act that is due
-    /// then.
+    /// Signs a Commit of the digest and sends it to all; the own one counts as any other. The answer is the act that
+    /// is due then.
     pub(crate) fn commit<K: Signer + Verifier>(
         &mut self,
         digest: Digest,
@@ -89,9 +114,12 @@ impl Running {
         requires { IsSound self.old }
         ensures same { IsSame self.old self.new }
         ensures sound { IsSound self.new }
-        ensures ready { (tells : Bool) (moments : Items State) → IsReady tells moments self.old → IsReady tells moments self.new }
+        ensures ready { (tells : Bool) (moments : Items State)
+            → IsReady tells moments self.old → IsReady tells moments self.new }
         ensures fits { IfOk result FitsAct }
-        ensures signs { Signs K.sign_gives result keys.old keys.new (λ signings. GoesOn result (λ told. Commits digest told self.old self.new (K.accepts keys.new) keys.new signings out.old out.new) (λ _. SignsAtMost (statement_at self.old digest) signings)) }
+        ensures signs { Signs K.sign_gives result keys.old keys.new (λ signings. GoesOn result
+            (λ told. Commits digest told self.old self.new (K.accepts keys.new) keys.new signings out.old out.new)
+            (λ _. SignsAtMost (statement_at self.old digest) signings)) }
         ensures later { K.faults keys.old ≤ K.faults keys.new }
         ensures no_disk { IfErr result TouchesNoDisk }
         ensures cause { HasNodeCause (counts 0 (K.faults keys.old)) (counts 0 (K.faults keys.new)) result }
@@ -104,7 +132,8 @@ impl Running {
         Ok(told)
     }
 
-    /// A preparation that is due: it is made durable before the Commit is signed. The answer is the next act that is due.
+    /// A preparation that is due: it is made durable before the Commit is signed. The answer is the next act that is
+    /// due.
     fn prepare<D: Disk, K: Signer + Verifier>(
         &mut self,
         digest: Digest,
@@ -116,16 +145,22 @@ impl Running {
         ensures same { OnOk result (IsSame self.old self.new) }
         ensures ready { OnOk result (IsReady (D.tells disk.new) (D.moments disk.new) self.new) }
         ensures fits { IfOk result FitsAct }
-        ensures makes { Signs K.sign_gives result keys.old keys.new (λ signings. (b : Before) (m : Step) → KeysFit K.accepts b.keys m.signed keys.old signings → Grows K.accepts keys.old signings → Makes b m (act_of.Prepare digest) self.old (around (K.accepts keys.old) (D.tells disk.old) (D.moments disk.old) out.old) → GoesOn result (λ told. Tells b (makes_prepared node_ways b.keys digest m) told self.new (around (K.accepts keys.new) (D.tells disk.new) (D.moments disk.new) out.new) × ((makes_prepared node_ways b.keys digest m).signed ≡ m.signed ++ statements_in signings)) (λ fault. IsStopped b (makes_prepared node_ways b.keys digest m) (m.signed ++ statements_in signings) (K.accepts (keys_after keys.old signings)) (D.tells disk.old) (D.moments disk.new) fault)) }
+        ensures makes { Signs K.sign_gives result keys.old keys.new (MakesRule K.accepts
+            (λ keys. does keys (duty_of.Prepare digest)) result (Taken (act_of.Prepare digest)) Telling
+            (stage self.old keys.old (D.tells disk.old) (D.moments disk.old) out.old)
+            (stage self.new keys.new (D.tells disk.new) (D.moments disk.new) out.new)) }
+        ensures next { IfOk result (λ next. DoesDuty (K.accepts keys.new) (duty_of.Prepare digest)
+            (act_of.Prepare digest) next self.old self.new) }
         ensures tells { D.tells disk.new ≡ D.tells disk.old }
         ensures later { (D.faults disk.old ≤ D.faults disk.new) × (K.faults keys.old ≤ K.faults keys.new) }
-        ensures cause { HasNodeCause (counts (D.faults disk.old) (K.faults keys.old)) (counts (D.faults disk.new) (K.faults keys.new)) result }
+        ensures cause { HasNodeCause (counts (D.faults disk.old) (K.faults keys.old))
+            (counts (D.faults disk.new) (K.faults keys.new)) result }
     {
         self.keep_preparation(digest, disk, out)?;
         self.commit(digest, keys, out)
     }
 
-    /// A delivery that is due, and the next place.
+    /// A delivery that is due, and the next place. The answer is the act that is due there.
     fn deliver<D: Disk, V: Verifier>(
         &mut self,
         block: Block,
@@ -133,116 +168,61 @@ impl Running {
         disk: &mut D,
         keys: &V,
         out: &mut Out,
-    ) -> Result<(), NodeFault>
+    ) -> Result<Act, NodeFault>
         requires { IsReady (D.tells disk.old) (D.moments disk.old) self.old }
         ensures same { OnOk result (IsSame self.old self.new) }
         ensures ready { OnOk result (IsReady (D.tells disk.new) (D.moments disk.new) self.new) }
-        ensures makes { (b : Before) (m : Step) → Makes b m (act_of.Deliver block cert) self.old (around (V.accepts keys.now) (D.tells disk.old) (D.moments disk.old) out.old) → GoesOn result (λ _. Makes b (makes_delivered node_ways block cert m) act_of.Kept self.new (around (V.accepts keys.now) (D.tells disk.new) (D.moments disk.new) out.new)) (λ fault. IsStopped b (makes_delivered node_ways block cert m) m.signed (V.accepts keys.now) (D.tells disk.old) (D.moments disk.new) fault) }
+        ensures fits { IfOk result FitsAct }
+        ensures makes { AddsRule (V.accepts keys.now) (λ keys. does keys (duty_of.Deliver block cert)) result
+            (Taken (act_of.Deliver block cert)) Telling
+            (stage self.old tt (D.tells disk.old) (D.moments disk.old) out.old)
+            (stage self.new tt (D.tells disk.new) (D.moments disk.new) out.new) }
+        ensures next { IfOk result (λ next. DoesDuty (V.accepts keys.now) (duty_of.Deliver block cert)
+            (act_of.Deliver block cert) next self.old self.new) }
         ensures tells { D.tells disk.new ≡ D.tells disk.old }
         ensures later { D.faults disk.old ≤ D.faults disk.new }
         ensures cause { HasNodeCause (counts (D.faults disk.old) 0) (counts (D.faults disk.new) 0) result }
     {
         self.keep_delivery(block, cert, disk, keys, out)?;
         self.view.go_to(self.store.ledger.place());
-        Ok(())
+        Ok(self.told(keys)?)
     }
 
-    /// Accepts what is due, from a told act on. The answer is the act that is due then.
-    fn acceptance<D: Disk, V: Verifier>(
+    /// Does the told act, if it is one. The answer is the next act that is due.
+    fn act<D: Disk, K: Signer + Verifier>(
         &mut self,
         told: Act,
         disk: &mut D,
-        keys: &V,
+        keys: &mut K,
         out: &mut Out,
     ) -> Result<Act, NodeFault>
         requires ready { IsReady (D.tells disk.old) (D.moments disk.old) self.old }
         requires fits { FitsAct told }
+        requires due { IsToldDue (K.accepts keys.old) told self.old }
         ensures same { OnOk result (IsSame self.old self.new) }
         ensures ready { OnOk result (IsReady (D.tells disk.new) (D.moments disk.new) self.new) }
         ensures fits { IfOk result FitsAct }
-        ensures makes { (b : Before) (m : Step) → Tells b m told self.old (around (V.accepts keys.now) (D.tells disk.old) (D.moments disk.old) out.old) → GoesOn result (λ next. Tells b (accepted_in b m) next self.new (around (V.accepts keys.now) (D.tells disk.new) (D.moments disk.new) out.new)) (λ fault. IsStopped b (accepted_in b m) m.signed (V.accepts keys.now) (D.tells disk.old) (D.moments disk.new) fault) }
+        ensures makes { Signs K.sign_gives result keys.old keys.new (MakesRule K.accepts
+            (does_act told) result (Telling told) Telling
+            (stage self.old keys.old (D.tells disk.old) (D.moments disk.old) out.old)
+            (stage self.new keys.new (D.tells disk.new) (D.moments disk.new) out.new)) }
+        ensures due { IfOk result (λ next. IsToldDue (K.accepts keys.new) next self.new) }
+        ensures fewer { IfOk result (λ next. IsTrue (tells_act told) → still_with next self.new < still_with told self.old) }
         ensures tells { D.tells disk.new ≡ D.tells disk.old }
-        ensures later { D.faults disk.old ≤ D.faults disk.new }
-        ensures cause { HasNodeCause (counts (D.faults disk.old) 0) (counts (D.faults disk.new) 0) result }
+        ensures later { (D.faults disk.old ≤ D.faults disk.new) × (K.faults keys.old ≤ K.faults keys.new) }
+        ensures cause { HasNodeCause (counts (D.faults disk.old) (K.faults keys.old))
+            (counts (D.faults disk.new) (K.faults keys.new)) result }
     {
         match told {
             Act::Accept(block) => self.accept(block, disk, keys, out),
-            told => Ok(told),
-        }
-    }
-
-    /// Prepares what is due, from a told act on, where nothing is to be accepted. The answer is the act that is due then.
-    fn preparation<D: Disk, K: Signer + Verifier>(
-        &mut self,
-        told: Act,
-        disk: &mut D,
-        keys: &mut K,
-        out: &mut Out,
-    ) -> Result<Act, NodeFault>
-        requires ready { IsReady (D.tells disk.old) (D.moments disk.old) self.old }
-        requires fits { FitsAct told }
-        ensures same { OnOk result (IsSame self.old self.new) }
-        ensures ready { OnOk result (IsReady (D.tells disk.new) (D.moments disk.new) self.new) }
-        ensures fits { IfOk result FitsAct }
-        ensures makes { Signs K.sign_gives result keys.old keys.new (λ signings. (b : Before) (m : Step) → KeysFit K.accepts b.keys m.signed keys.old signings → Grows K.accepts keys.old signings → Tells b m told self.old (around (K.accepts keys.old) (D.tells disk.old) (D.moments disk.old) out.old) → HasNoneToAccept b m → GoesOn result (λ next. Ends b (prepared_in b m) next self.new (around (K.accepts keys.new) (D.tells disk.new) (D.moments disk.new) out.new) × ((prepared_in b m).signed ≡ m.signed ++ statements_in signings)) (λ fault. IsStopped b (prepared_in b m) (m.signed ++ statements_in signings) (K.accepts (keys_after keys.old signings)) (D.tells disk.old) (D.moments disk.new) fault)) }
-        ensures tells { D.tells disk.new ≡ D.tells disk.old }
-        ensures later { (D.faults disk.old ≤ D.faults disk.new) × (K.faults keys.old ≤ K.faults keys.new) }
-        ensures cause { HasNodeCause (counts (D.faults disk.old) (K.faults keys.old)) (counts (D.faults disk.new) (K.faults keys.new)) result }
-    {
-        match told {
             Act::Prepare(digest) => self.prepare(digest, disk, keys, out),
+            Act::Deliver(block, cert) => self.deliver(block, cert, disk, keys, out),
             told => Ok(told),
         }
     }
 
-    /// Accepts and prepares what is due, from a told act on. The answer is the act that is due then.
-    fn votes<D: Disk, K: Signer + Verifier>(
-        &mut self,
-        told: Act,
-        disk: &mut D,
-        keys: &mut K,
-        out: &mut Out,
-    ) -> Result<Act, NodeFault>
-        requires ready { IsReady (D.tells disk.old) (D.moments disk.old) self.old }
-        requires fits { FitsAct told }
-        ensures same { OnOk result (IsSame self.old self.new) }
-        ensures ready { OnOk result (IsReady (D.tells disk.new) (D.moments disk.new) self.new) }
-        ensures fits { IfOk result FitsAct }
-        ensures makes { Signs K.sign_gives result keys.old keys.new (λ signings. (b : Before) (m : Step) → KeysFit K.accepts b.keys m.signed keys.old signings → Grows K.accepts keys.old signings → Tells b m told self.old (around (K.accepts keys.old) (D.tells disk.old) (D.moments disk.old) out.old) → GoesOn result (λ next. Ends b (votes node_ways b.keys m) next self.new (around (K.accepts keys.new) (D.tells disk.new) (D.moments disk.new) out.new) × ((votes node_ways b.keys m).signed ≡ m.signed ++ statements_in signings)) (λ fault. IsStopped b (votes node_ways b.keys m) (m.signed ++ statements_in signings) (K.accepts (keys_after keys.old signings)) (D.tells disk.old) (D.moments disk.new) fault)) }
-        ensures tells { D.tells disk.new ≡ D.tells disk.old }
-        ensures later { (D.faults disk.old ≤ D.faults disk.new) × (K.faults keys.old ≤ K.faults keys.new) }
-        ensures cause { HasNodeCause (counts (D.faults disk.old) (K.faults keys.old)) (counts (D.faults disk.new) (K.faults keys.new)) result }
-    {
-        let told = self.acceptance(told, disk, keys, out)?;
-        self.preparation(told, disk, keys, out)
-    }
-
-    /// Does the votes that are due, from a told act on, and then a delivery. The answer is whether one was due.
-    fn round<D: Disk, K: Signer + Verifier>(
-        &mut self,
-        told: Act,
-        disk: &mut D,
-        keys: &mut K,
-        out: &mut Out,
-    ) -> Result<bool, NodeFault>
-        requires ready { IsReady (D.tells disk.old) (D.moments disk.old) self.old }
-        requires fits { FitsAct told }
-        ensures same { OnOk result (IsSame self.old self.new) }
-        ensures ready { OnOk result (IsReady (D.tells disk.new) (D.moments disk.new) self.new) }
-        ensures makes { Signs K.sign_gives result keys.old keys.new (λ signings. (b : Before) (m : Step) → KeysFit K.accepts b.keys m.signed keys.old signings → Grows K.accepts keys.old signings → Tells b m told self.old (around (K.accepts keys.old) (D.tells disk.old) (D.moments disk.old) out.old) → GoesOn result (λ delivers. Makes b (rounds node_ways b.keys 1 m) act_of.Kept self.new (around (K.accepts keys.new) (D.tells disk.new) (D.moments disk.new) out.new) × ((rounds node_ways b.keys 1 m).signed ≡ m.signed ++ statements_in signings) × (delivers ≡ is_delivering b m)) (λ fault. IsStopped b (rounds node_ways b.keys 1 m) (m.signed ++ statements_in signings) (K.accepts (keys_after keys.old signings)) (D.tells disk.old) (D.moments disk.new) fault)) }
-        ensures tells { D.tells disk.new ≡ D.tells disk.old }
-        ensures later { (D.faults disk.old ≤ D.faults disk.new) × (K.faults keys.old ≤ K.faults keys.new) }
-        ensures cause { HasNodeCause (counts (D.faults disk.old) (K.faults keys.old)) (counts (D.faults disk.new) (K.faults keys.new)) result }
-    {
-        let Act::Deliver(block, cert) = self.votes(told, disk, keys, out)? else {
-            return Ok(false);
-        };
-        self.deliver(block, cert, disk, keys, out)?;
-        Ok(true)
-    }
-
-    /// Does all that is due from a told act on: votes, a delivery, and the same at the next number.
-    pub(crate) fn rounds<D: Disk, K: Signer + Verifier>(
+    /// Does acts until none is due, from a told act on.
+    pub(crate) fn acts<D: Disk, K: Signer + Verifier>(
         &mut self,
         told: Act,
         disk: &mut D,
@@ -251,17 +231,32 @@ impl Running {
     ) -> Result<(), NodeFault>
         requires ready { IsReady (D.tells disk.old) (D.moments disk.old) self.old }
         requires fits { FitsAct told }
+        requires due { IsToldDue (K.accepts keys.old) told self.old }
         ensures same { OnOk result (IsSame self.old self.new) }
         ensures ready { OnOk result (IsReady (D.tells disk.new) (D.moments disk.new) self.new) }
-        ensures makes { Signs K.sign_gives result keys.old keys.new (λ signings. (b : Before) (m : Step) → KeysFit K.accepts b.keys m.signed keys.old signings → Grows K.accepts keys.old signings → Tells b m told self.old (around (K.accepts keys.old) (D.tells disk.old) (D.moments disk.old) out.old) → GoesOn result (λ _. Makes b (rounds node_ways b.keys 2 m) act_of.Kept self.new (around (K.accepts keys.new) (D.tells disk.new) (D.moments disk.new) out.new) × ((rounds node_ways b.keys 2 m).signed ≡ m.signed ++ statements_in signings)) (λ fault. IsStopped b (rounds node_ways b.keys 2 m) (m.signed ++ statements_in signings) (K.accepts (keys_after keys.old signings)) (D.tells disk.old) (D.moments disk.new) fault)) }
+        ensures makes { Signs K.sign_gives result keys.old keys.new (MakesRule K.accepts
+            all_due result (Telling told) Quiet
+            (stage self.old keys.old (D.tells disk.old) (D.moments disk.old) out.old)
+            (stage self.new keys.new (D.tells disk.new) (D.moments disk.new) out.new)) }
         ensures tells { D.tells disk.new ≡ D.tells disk.old }
         ensures later { (D.faults disk.old ≤ D.faults disk.new) × (K.faults keys.old ≤ K.faults keys.new) }
-        ensures cause { HasNodeCause (counts (D.faults disk.old) (K.faults keys.old)) (counts (D.faults disk.new) (K.faults keys.new)) result }
+        ensures cause { HasNodeCause (counts (D.faults disk.old) (K.faults keys.old))
+            (counts (D.faults disk.new) (K.faults keys.new)) result }
     {
-        if self.round(told, disk, keys, out)? {
-            let told = self.told(keys)?;
-            self.round(told, disk, keys, out)?;
+        if !is_act(&told) {
+            return Ok(());
         }
-        Ok(())
+        let next = self.act(told, disk, keys, out)?;
+        self.acts(next, disk, keys, out)
+    }
+}
+
+/// Whether an answer tells an act that is to be done.
+fn is_act(told: &Act) -> bool
+    ensures { result ≡ tells_act told.now }
+{
+    match told {
+        Act::Kept | Act::Nothing(_) => false,
+        _ => true,
     }
 }

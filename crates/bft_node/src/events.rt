@@ -1,5 +1,5 @@
 //! What an event brings a running node.
-ghost use Rattle.std.specs.Prelude.{◌≡◌, ◌≢◌, ◌≤◌, ℕ, Bool, List as Items, [], ◌∷◌, IfOk, IfSome, OnOk, Some};
+ghost use Rattle.std.specs.Prelude.{◌≡◌, ◌≢◌, ◌≤◌, ℕ, Bool, List as Items, IfOk, IfSome, OnOk, Some};
 ghost use Rattle.ord_types.specs.Lengths.{FitsBlock};
 ghost use Rattle.gate_log.specs.Disk.{State};
 ghost use Rattle.signer_edge.specs.Accepts.{Accepts as SomeAccepts};
@@ -7,20 +7,20 @@ ghost use Rattle.bft_wire.specs.Lengths.{FitsMessage};
 ghost use Rattle.bft_wire.specs.Reading.{message_in};
 ghost use Rattle.bft_wire.specs.declared.message.Message.TheVariants as message_of;
 ghost use Rattle.view_model.specs.declared.act.Act.TheVariants as act_of;
-ghost use Rattle.view_model.specs.Acts.{proposed};
-ghost use Rattle.node_model.specs.Deeds.{unlogged};
-ghost use Rattle.node_model.specs.Restarts.{step};
-ghost use Rattle.node_model.specs.Steps.{FromMember, Tick, begins, makes_accepted, preprepare_message, propose_round};
+ghost use Rattle.node_model.specs.Cores.{after_event};
+ghost use Rattle.node_model.specs.Entries.{FromMember, Tick};
+ghost use Rattle.node_model.specs.Steps.{own_rule, proposes};
 ghost use Rattle.view_core.specs.Fits.{FitsAct};
-ghost use Rattle.bft_node.specs.Making.{Around, Before, Begins, GoesOn, IsStopped, Makes, Step, Tells, around, node_returns, node_ways, place_in, view_in};
+ghost use Rattle.bft_node.specs.Calls.{AddsRule, MakesStep, Quiet, Taken, TellsDue, stage};
 ghost use Rattle.bft_node.specs.NodeFaults.{HasNodeCause, counts};
-ghost use Rattle.bft_node.specs.Running.{IsReady, IsSame, IsSound, event_of, state_of};
-ghost use Rattle.bft_node.specs.Signings.{Grows, KeysFit, Signs, keys_after, statements_in};
+ghost use Rattle.bft_node.specs.Running.{IsReady, IsSame, IsSound, state_of};
+ghost use Rattle.bft_node.specs.Signings.{Signs};
 
 use crate::NodeFault;
-use crate::live::{Event, Out, Running};
+use crate::live::{Out, Running};
 use bft_wire::{Message, Prepare, decode};
 use gate_log::Disk;
+use node_model::Event;
 use ord_types::{Block, Copied, List, NoMemory, ReadFault, Request};
 use signer_edge::{Signer, Verifier};
 use std::alloc::Global;
@@ -52,7 +52,10 @@ impl Running {
         requires fits { FitsBlock block }
         ensures same { OnOk result (IsSame self.old self.new) }
         ensures ready { OnOk result (IsReady (D.tells disk.new) (D.moments disk.new) self.new) }
-        ensures makes { (accepts : SomeAccepts) (b : Before) (m : Step) → Makes b m (act_of.Accept block) self.old (around accepts (D.tells disk.old) (D.moments disk.old) out.old) → GoesOn result (λ _. Makes b (makes_accepted node_ways block (preprepare_message (place_in m) (view_in m) block ∷ []) m) act_of.Kept self.new (around accepts (D.tells disk.new) (D.moments disk.new) out.new)) (λ fault. IsStopped b (makes_accepted node_ways block (preprepare_message (place_in m) (view_in m) block ∷ []) m) m.signed accepts (D.tells disk.old) (D.moments disk.new) fault) }
+        ensures makes { (accepts : SomeAccepts)
+            → AddsRule accepts (λ _ _ c. proposes (Some block) c) result (Taken (act_of.Accept block)) Quiet
+            (stage self.old tt (D.tells disk.old) (D.moments disk.old) out.old)
+            (stage self.new tt (D.tells disk.new) (D.moments disk.new) out.new) }
         ensures tells { D.tells disk.new ≡ D.tells disk.old }
         ensures later { D.faults disk.old ≤ D.faults disk.new }
         ensures cause { HasNodeCause (counts (D.faults disk.old) 0) (counts (D.faults disk.new) 0) result }
@@ -74,7 +77,9 @@ impl Running {
         requires { IsReady (D.tells disk.old) (D.moments disk.old) self.old }
         ensures same { OnOk result (IsSame self.old self.new) }
         ensures ready { OnOk result (IsReady (D.tells disk.new) (D.moments disk.new) self.new) }
-        ensures makes { (b : Before) (m : Step) → Makes b m act_of.Kept self.old (around (V.accepts keys.now) (D.tells disk.old) (D.moments disk.old) out.old) → GoesOn result (λ _. Makes b (propose_round node_ways (proposed (place_in m) (view_in m) offer) m) act_of.Kept self.new (around (V.accepts keys.now) (D.tells disk.new) (D.moments disk.new) out.new)) (λ fault. IsStopped b (propose_round node_ways (proposed (place_in m) (view_in m) offer) m) m.signed (V.accepts keys.now) (D.tells disk.old) (D.moments disk.new) fault) }
+        ensures makes { AddsRule (V.accepts keys.now) (λ _. own_rule (Tick offer)) result (Quiet tt) Quiet
+            (stage self.old tt (D.tells disk.old) (D.moments disk.old) out.old)
+            (stage self.new tt (D.tells disk.new) (D.moments disk.new) out.new) }
         ensures tells { D.tells disk.new ≡ D.tells disk.old }
         ensures later { D.faults disk.old ≤ D.faults disk.new }
         ensures cause { HasNodeCause (counts (D.faults disk.old) 0) (counts (D.faults disk.new) 0) result }
@@ -96,15 +101,18 @@ impl Running {
         requires { IsReady (D.tells disk.old) (D.moments disk.old) self.old }
         ensures same { OnOk result (IsSame self.old self.new) }
         ensures ready { OnOk result (IsReady (D.tells disk.new) (D.moments disk.new) self.new) }
-        ensures makes { Signs K.sign_gives result keys.old keys.new (λ signings. (b : Before) → KeysFit K.accepts b.keys [] keys.old signings → Grows K.accepts keys.old signings → Begins b self.old (around (K.accepts keys.old) (D.tells disk.old) (D.moments disk.old) out.old) → GoesOn result (λ _. Makes b (step node_returns b.keys (unlogged (state_of self.old)) (Tick offer)) act_of.Kept self.new (around (K.accepts keys.new) (D.tells disk.new) (D.moments disk.new) out.new) × ((step node_returns b.keys (unlogged (state_of self.old)) (Tick offer)).signed ≡ statements_in signings)) (λ fault. IsStopped b (step node_returns b.keys (unlogged (state_of self.old)) (Tick offer)) (statements_in signings) (K.accepts (keys_after keys.old signings)) (D.tells disk.old) (D.moments disk.new) fault)) }
+        ensures makes { Signs K.sign_gives result keys.old keys.new (MakesStep K.accepts (Tick offer) result
+            (stage self.old keys.old (D.tells disk.old) (D.moments disk.old) out.old)
+            (stage self.new keys.new (D.tells disk.new) (D.moments disk.new) out.new)) }
         ensures tells { D.tells disk.new ≡ D.tells disk.old }
         ensures later { (D.faults disk.old ≤ D.faults disk.new) × (K.faults keys.old ≤ K.faults keys.new) }
-        ensures cause { HasNodeCause (counts (D.faults disk.old) (K.faults keys.old)) (counts (D.faults disk.new) (K.faults keys.new)) result }
+        ensures cause { HasNodeCause (counts (D.faults disk.old) (K.faults keys.old))
+            (counts (D.faults disk.new) (K.faults keys.new)) result }
     {
         self.repeat(keys, out)?;
         self.propose(offer, disk, keys, out)?;
         let told = self.told(keys)?;
-        self.rounds(told, disk, keys, out)
+        self.acts(told, disk, keys, out)
     }
 
     /// What a Prepare brings: the act that is due with it.
@@ -118,9 +126,13 @@ impl Running {
         requires other { from ≢ self.old.id }
         ensures same { IsSame self.old self.new }
         ensures sound { IsSound self.new }
-        ensures ready { (tells : Bool) (moments : Items State) → IsReady tells moments self.old → IsReady tells moments self.new }
+        ensures ready { (tells : Bool) (moments : Items State)
+            → IsReady tells moments self.old → IsReady tells moments self.new }
         ensures fits { IfOk result FitsAct }
-        ensures makes { IfOk result (λ told. (b : Before) (bytes : Items ℕ) (a : Around) → a.accepts ≡ V.accepts keys.now → message_in bytes ≡ Some (message_of.Prepare message.now) → Begins b self.old a → Tells b (begins node_ways b.keys (unlogged (state_of self.old)) (FromMember from bytes)) told self.new a) }
+        ensures told { IfOk result (λ told. (bytes : Items ℕ)
+            → message_in bytes ≡ Some (message_of.Prepare message.now)
+            → TellsDue (V.accepts keys.now)
+                (after_event (FromMember from bytes) (V.accepts keys.now) (state_of self.old)) told self.old self.new) }
     {
         let told = self
             .view
@@ -131,15 +143,19 @@ impl Running {
         self.told(keys)
     }
 
-    /// What a message of another member brings: the act that is due with it. One of a kind that has no rule brings nothing.
+    /// What a message of another member brings: the act that is due with it. One of a kind that has no rule brings
+    /// nothing.
     fn hears<V: Verifier>(&mut self, from: u32, message: Message, keys: &V) -> Result<Act, NoMemory>
         requires sound { IsSound self.old }
         requires fits { FitsMessage message }
         ensures same { IsSame self.old self.new }
         ensures sound { IsSound self.new }
-        ensures ready { (tells : Bool) (moments : Items State) → IsReady tells moments self.old → IsReady tells moments self.new }
+        ensures ready { (tells : Bool) (moments : Items State)
+            → IsReady tells moments self.old → IsReady tells moments self.new }
         ensures fits { IfOk result FitsAct }
-        ensures makes { IfOk result (λ told. (b : Before) (bytes : Items ℕ) (a : Around) → a.accepts ≡ V.accepts keys.now → message_in bytes ≡ Some (message) → Begins b self.old a → Tells b (begins node_ways b.keys (unlogged (state_of self.old)) (FromMember from bytes)) told self.new a) }
+        ensures told { IfOk result (λ told. (bytes : Items ℕ) → message_in bytes ≡ Some message
+            → TellsDue (V.accepts keys.now)
+                (after_event (FromMember from bytes) (V.accepts keys.now) (state_of self.old)) told self.old self.new) }
     {
         if from == self.id {
             return self.told(keys);
@@ -158,14 +174,17 @@ impl Running {
         }
     }
 
-    /// What bytes bring: the act that is due with the message that they spell. Bytes that spell none bring nothing.
+    /// What bytes bring: the act that is due with the message that they spell. Bytes that spell none bring
+    /// nothing.
     fn comes<V: Verifier>(&mut self, from: u32, bytes: &[u8], keys: &V) -> Result<Act, NoMemory>
         requires { IsSound self.old }
         ensures same { IsSame self.old self.new }
         ensures sound { IsSound self.new }
-        ensures ready { (tells : Bool) (moments : Items State) → IsReady tells moments self.old → IsReady tells moments self.new }
+        ensures ready { (tells : Bool) (moments : Items State)
+            → IsReady tells moments self.old → IsReady tells moments self.new }
         ensures fits { IfOk result FitsAct }
-        ensures makes { IfOk result (λ told. (b : Before) (a : Around) → a.accepts ≡ V.accepts keys.now → Begins b self.old a → Tells b (begins node_ways b.keys (unlogged (state_of self.old)) (FromMember from bytes.now)) told self.new a) }
+        ensures told { IfOk result (λ told. TellsDue (V.accepts keys.now)
+            (after_event (FromMember from bytes.now) (V.accepts keys.now) (state_of self.old)) told self.old self.new) }
     {
         let message = spelled(self.alloc, bytes)?;
         match message {
@@ -186,13 +205,17 @@ impl Running {
         requires { IsReady (D.tells disk.old) (D.moments disk.old) self.old }
         ensures same { OnOk result (IsSame self.old self.new) }
         ensures ready { OnOk result (IsReady (D.tells disk.new) (D.moments disk.new) self.new) }
-        ensures makes { Signs K.sign_gives result keys.old keys.new (λ signings. (b : Before) → KeysFit K.accepts b.keys [] keys.old signings → Grows K.accepts keys.old signings → Begins b self.old (around (K.accepts keys.old) (D.tells disk.old) (D.moments disk.old) out.old) → GoesOn result (λ _. Makes b (step node_returns b.keys (unlogged (state_of self.old)) (FromMember from bytes.now)) act_of.Kept self.new (around (K.accepts keys.new) (D.tells disk.new) (D.moments disk.new) out.new) × ((step node_returns b.keys (unlogged (state_of self.old)) (FromMember from bytes.now)).signed ≡ statements_in signings)) (λ fault. IsStopped b (step node_returns b.keys (unlogged (state_of self.old)) (FromMember from bytes.now)) (statements_in signings) (K.accepts (keys_after keys.old signings)) (D.tells disk.old) (D.moments disk.new) fault)) }
+        ensures makes { Signs K.sign_gives result keys.old keys.new (MakesStep K.accepts
+            (FromMember from bytes.now) result
+            (stage self.old keys.old (D.tells disk.old) (D.moments disk.old) out.old)
+            (stage self.new keys.new (D.tells disk.new) (D.moments disk.new) out.new)) }
         ensures tells { D.tells disk.new ≡ D.tells disk.old }
         ensures later { (D.faults disk.old ≤ D.faults disk.new) × (K.faults keys.old ≤ K.faults keys.new) }
-        ensures cause { HasNodeCause (counts (D.faults disk.old) (K.faults keys.old)) (counts (D.faults disk.new) (K.faults keys.new)) result }
+        ensures cause { HasNodeCause (counts (D.faults disk.old) (K.faults keys.old))
+            (counts (D.faults disk.new) (K.faults keys.new)) result }
     {
         let told = self.comes(from, bytes, keys)?;
-        self.rounds(told, disk, keys, out)
+        self.acts(told, disk, keys, out)
     }
 
     /// One event.
@@ -206,10 +229,13 @@ impl Running {
         requires { IsReady (D.tells disk.old) (D.moments disk.old) self.old }
         ensures same { OnOk result (IsSame self.old self.new) }
         ensures ready { OnOk result (IsReady (D.tells disk.new) (D.moments disk.new) self.new) }
-        ensures makes { Signs K.sign_gives result keys.old keys.new (λ signings. (b : Before) → KeysFit K.accepts b.keys [] keys.old signings → Grows K.accepts keys.old signings → Begins b self.old (around (K.accepts keys.old) (D.tells disk.old) (D.moments disk.old) out.old) → GoesOn result (λ _. Makes b (step node_returns b.keys (unlogged (state_of self.old)) (event_of event)) act_of.Kept self.new (around (K.accepts keys.new) (D.tells disk.new) (D.moments disk.new) out.new) × ((step node_returns b.keys (unlogged (state_of self.old)) (event_of event)).signed ≡ statements_in signings)) (λ fault. IsStopped b (step node_returns b.keys (unlogged (state_of self.old)) (event_of event)) (statements_in signings) (K.accepts (keys_after keys.old signings)) (D.tells disk.old) (D.moments disk.new) fault)) }
+        ensures makes { Signs K.sign_gives result keys.old keys.new (MakesStep K.accepts (event) result
+            (stage self.old keys.old (D.tells disk.old) (D.moments disk.old) out.old)
+            (stage self.new keys.new (D.tells disk.new) (D.moments disk.new) out.new)) }
         ensures tells { D.tells disk.new ≡ D.tells disk.old }
         ensures later { (D.faults disk.old ≤ D.faults disk.new) × (K.faults keys.old ≤ K.faults keys.new) }
-        ensures cause { HasNodeCause (counts (D.faults disk.old) (K.faults keys.old)) (counts (D.faults disk.new) (K.faults keys.new)) result }
+        ensures cause { HasNodeCause (counts (D.faults disk.old) (K.faults keys.old))
+            (counts (D.faults disk.new) (K.faults keys.new)) result }
     {
         match event {
             Event::Tick { offer } => self.tick(offer, disk, keys, out),

@@ -5,7 +5,8 @@ ghost use Rattle.ord_types.specs.declared.values.Proof.TheVariants.{Bft};
 ghost use Rattle.block_ledger.specs.Entries.{HasEntrySpelling};
 ghost use Rattle.block_ledger.specs.Judging.{next_refusal};
 ghost use Rattle.signer_edge.specs.Accepts.{Accepts as SomeAccepts};
-ghost use Rattle.node_model.specs.Deeds.{Delivers, acceptance, preparation};
+ghost use Rattle.node_model.specs.Entries.{Delivers};
+ghost use Rattle.node_model.specs.Steps.{acceptance, preparation};
 ghost use Rattle.bft_node.specs.Keeping.{Keeps, KeepsWithin};
 ghost use Rattle.bft_node.specs.NodeFaults.{HasNodeCause, NeedsLimit, counts};
 ghost use Rattle.bft_node.specs.Running.{IsReady, place_of};
@@ -74,9 +75,12 @@ impl Running {
     ) -> Result<(), NodeFault>
         requires { IsReady (D.tells disk.old) (D.moments disk.old) self.old }
         ensures ready { OnOk result (IsReady (D.tells disk.new) (D.moments disk.new) self.new) }
-        ensures keeps { OnOk result (Keeps (acceptance (place_of self.old) self.old.view block) self.old self.new out.old out.new) }
-        ensures any_moment { (accepts : SomeAccepts) → KeepsWithin (acceptance (place_of self.old) self.old.view block) self.old accepts (D.tells disk.old) (D.moments disk.old) (D.moments disk.new) }
-        ensures limit { IfErr result (NeedsLimit (D.tells disk.old) (acceptance (place_of self.old) self.old.view block) (held_of self.old.store)) }
+        ensures keeps { OnOk result (Keeps (acceptance (place_of self.old) self.old.view block)
+            self.old self.new out.old out.new) }
+        ensures any_moment { (accepts : SomeAccepts) → KeepsWithin (acceptance (place_of self.old) self.old.view block)
+            self.old accepts (D.tells disk.old) (D.moments disk.old) (D.moments disk.new) }
+        ensures limit { IfErr result (NeedsLimit (D.tells disk.old) (acceptance (place_of self.old) self.old.view block)
+            (held_of self.old.store)) }
         ensures tells { D.tells disk.new ≡ D.tells disk.old }
         ensures later { D.faults disk.old ≤ D.faults disk.new }
         ensures cause { HasNodeCause (counts (D.faults disk.old) 0) (counts (D.faults disk.new) 0) result }
@@ -111,9 +115,12 @@ impl Running {
     ) -> Result<(), NodeFault>
         requires { IsReady (D.tells disk.old) (D.moments disk.old) self.old }
         ensures ready { OnOk result (IsReady (D.tells disk.new) (D.moments disk.new) self.new) }
-        ensures keeps { OnOk result (Keeps (preparation (place_of self.old) self.old.view digest) self.old self.new out.old out.new) }
-        ensures any_moment { (accepts : SomeAccepts) → KeepsWithin (preparation (place_of self.old) self.old.view digest) self.old accepts (D.tells disk.old) (D.moments disk.old) (D.moments disk.new) }
-        ensures limit { IfErr result (NeedsLimit (D.tells disk.old) (preparation (place_of self.old) self.old.view digest) (held_of self.old.store)) }
+        ensures keeps { OnOk result (Keeps (preparation (place_of self.old) self.old.view digest)
+            self.old self.new out.old out.new) }
+        ensures any_moment { (accepts : SomeAccepts) → KeepsWithin (preparation (place_of self.old) self.old.view digest)
+            self.old accepts (D.tells disk.old) (D.moments disk.old) (D.moments disk.new) }
+        ensures limit { IfErr result (NeedsLimit (D.tells disk.old) (preparation (place_of self.old) self.old.view digest)
+            (held_of self.old.store)) }
         ensures tells { D.tells disk.new ≡ D.tells disk.old }
         ensures later { D.faults disk.old ≤ D.faults disk.new }
         ensures cause { HasNodeCause (counts (D.faults disk.old) 0) (counts (D.faults disk.new) 0) result }
@@ -145,11 +152,16 @@ impl Running {
     ) -> Result<(), NodeFault>
         requires { IsReady (D.tells disk.old) (D.moments disk.old) self.old }
         ensures kept { IsTrue (D.tells disk.new) → OnOk result (IsKept self.new.store (now (D.moments disk.new))) }
-        ensures chain { OnOk result (IsChain (V.accepts keys.now) (config_of self.old.store) (held_of self.old.store).blocks → IsChain (V.accepts keys.now) (config_of self.old.store) (held_of self.new.store).blocks) }
+        ensures chain { OnOk result
+            (IsChain (V.accepts keys.now) (config_of self.old.store) (held_of self.old.store).blocks
+            → IsChain (V.accepts keys.now) (config_of self.old.store) (held_of self.new.store).blocks) }
         ensures place { OnOk result (IsPlace (place_of self.new)) }
-        ensures keeps { OnOk result (Keeps (Delivers self.old.view.me block cert) self.old self.new out.old out.new) }
-        ensures any_moment { KeepsWithin (Delivers self.old.view.me block cert) self.old (V.accepts keys.now) (D.tells disk.old) (D.moments disk.old) (D.moments disk.new) }
-        ensures limit { IfErr result (NeedsLimit (D.tells disk.old) (Delivers self.old.view.me block cert) (held_of self.old.store)) }
+        ensures keeps { OnOk result (Keeps (Delivers self.old.view.me block (Bft cert))
+            self.old self.new out.old out.new) }
+        ensures any_moment { KeepsWithin (Delivers self.old.view.me block (Bft cert))
+            self.old (V.accepts keys.now) (D.tells disk.old) (D.moments disk.old) (D.moments disk.new) }
+        ensures limit { IfErr result (NeedsLimit (D.tells disk.old) (Delivers self.old.view.me block (Bft cert))
+            (held_of self.old.store)) }
         ensures tells { D.tells disk.new ≡ D.tells disk.old }
         ensures later { D.faults disk.old ≤ D.faults disk.new }
         ensures cause { HasNodeCause (counts (D.faults disk.old) 0) (counts (D.faults disk.new) 0) result }

@@ -29,8 +29,9 @@ mod write;
 
 pub use fault::{OpenFault, StoreFault};
 pub use laws::{deeds_are_found, nodes_are_found, stored_deeds_stand};
-pub use live::{Done, Event, Out, Post, Setup};
+pub use live::{Done, Out, Post, Setup};
 pub use member::Node;
+pub use node_model::Event;
 pub use node_fault::NodeFault;
 pub use nodes::Nodes;
 pub use own_nodes::OwnNodes;

@@ -1,7 +1,7 @@
 ghost use Rattle.std.specs.Prelude.{◌≡◌, []};
 
 use crate::Store;
-use ord_types::{Block, Bytes, Config, List, ReqId, Request};
+use ord_types::{Block, Bytes, Config, List, ReqId};
 use safety_model::Fact;
 use std::alloc::Global;
 use std::rc::Rc;
@@ -12,15 +12,6 @@ use view_core::ViewState;
 pub struct Setup {
     pub me: u32,
     pub genesis: Config,
-}
-
-/// What comes to a node.
-#[derive(Drop)]
-pub enum Event {
-    /// A tick, with what the pool offers for the next block.
-    Tick { offer: List<Request> },
-    /// The bytes of a message, and the id of its sender. In the node's own name they spell nothing.
-    FromMember { from: u32, bytes: Bytes },
 }
 
 /// A message to be sent: its receiver, and its bytes. A message to several receivers stands in memory once.
@@ -70,7 +61,8 @@ pub struct Found {
     pub(crate) is_prepared: bool,
 }
 
-/// A node as it runs: what it holds durable, what it holds of its view, and what its opening found, until a tick takes it.
+/// A node as it runs: what it holds durable, what it holds of its view, and what its opening found, until a tick
+/// takes it.
 #[derive(Drop)]
 pub struct Running {
     pub(crate) alloc: Global,

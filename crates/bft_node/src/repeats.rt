@@ -1,16 +1,16 @@
 //! What a node sends again at the first tick after its opening.
-ghost use Rattle.std.specs.Prelude.{◌≡◌, ◌≤◌, ◌==◌, Bool, IfErr, List as Items, [], ◌++◌, OnOk, Some, None, map};
-ghost use Rattle.std.specs.List.{flat_map};
+ghost use Rattle.std.specs.Prelude.{◌≡◌, ◌≤◌, ◌==◌, Bool, IfErr, List as Items, ◌++◌, OnOk, Some, None, map};
 ghost use Rattle.ord_types.specs.Lengths.{FitsBlock};
+ghost use Rattle.ord_types.specs.Hashes.{block_hash};
 ghost use Rattle.gate_log.specs.Disk.{State};
-ghost use Rattle.view_model.specs.declared.act.Act.TheVariants as act_of;
 ghost use Rattle.view_model.specs.Leading.{leader};
-ghost use Rattle.node_model.specs.Restarts.{Found as FoundOnce, current, is_current, repeat_round, repeated_votes, repeats_commit};
-ghost use Rattle.node_model.specs.Steps.{to_all};
-ghost use Rattle.bft_node.specs.Making.{Before, GoesOn, IsStopped, Makes, Step, around, node_returns, place_in, sent_of, text_of, view_in};
+ghost use Rattle.node_model.specs.Cores.{Found as FoundOnce};
+ghost use Rattle.node_model.specs.Steps.{commits, is_current, repeated_votes};
+ghost use Rattle.bft_node.specs.Calls.{MakesRule, Quiet, repeats_current, stage};
+ghost use Rattle.bft_node.specs.Making.{sent_of, sent_to_others};
 ghost use Rattle.bft_node.specs.NodeFaults.{HasNodeCause, TouchesNoDisk, counts};
 ghost use Rattle.bft_node.specs.Running.{IsReady, IsSame, IsSound, as_found, place_of};
-ghost use Rattle.bft_node.specs.Signings.{Grows, KeysFit, Signs, keys_after, statements_in};
+ghost use Rattle.bft_node.specs.Signings.{Signs};
 
 use crate::NodeFault;
 use crate::live::{Found, Out, Running};
@@ -24,7 +24,8 @@ impl Running {
     /// Whether the node is a member of a BFT configuration, inside its view, and stands where the opening found it.
     fn is_current(&self, found: &Found) -> bool
         requires { IsSound self.now }
-        ensures { (f : FoundOnce) → as_found (Some found.now) ≡ Some f → result ≡ is_current (place_of self.now) self.now.view f }
+        ensures { (f : FoundOnce) → as_found (Some found.now) ≡ Some f
+            → result ≡ is_current (place_of self.now) self.now.view f }
     {
         let place = self.store.ledger.place();
         let is_bft = match place.config.kind {
@@ -52,7 +53,8 @@ impl Running {
     fn repeat_votes(&self, block: &Block, out: &mut Out) -> Result<(), NoMemory>
         requires sound { IsSound self.now }
         requires fits { FitsBlock block.now }
-        ensures sent { OnOk result (map sent_of out.new.sends ≡ map sent_of out.old.sends ++ map text_of (flat_map (to_all (place_of self.now).config.members self.now.id) (repeated_votes (place_of self.now) self.now.view block.now))) }
+        ensures sent { OnOk result (map sent_of out.new.sends ≡ map sent_of out.old.sends
+            ++ sent_to_others self.now (repeated_votes (place_of self.now) self.now.view block.now)) }
         ensures facts { out.new.facts ≡ out.old.facts }
         ensures done { out.new.done ≡ out.old.done }
     {
@@ -73,8 +75,11 @@ impl Running {
         requires { IsSound self.old }
         ensures same { IsSame self.old self.new }
         ensures sound { IsSound self.new }
-        ensures ready { (tells : Bool) (moments : Items State) → IsReady tells moments self.old → IsReady tells moments self.new }
-        ensures makes { Signs K.sign_gives result keys.old keys.new (λ signings. (tells : Bool) (moments : Items State) (b : Before) (m : Step) → IsReady tells moments self.old → m.state.deeds ≡ [] → KeysFit K.accepts b.keys m.signed keys.old signings → Grows K.accepts keys.old signings → Makes b m act_of.Kept self.old (around (K.accepts keys.old) tells moments out.old) → GoesOn result (λ _. Makes b (repeat_round node_returns b.keys (current (place_in m) (view_in m) (as_found (Some found.now))) m) act_of.Kept self.new (around (K.accepts keys.new) tells moments out.new) × ((repeat_round node_returns b.keys (current (place_in m) (view_in m) (as_found (Some found.now))) m).signed ≡ m.signed ++ statements_in signings)) (λ fault. IsStopped b (repeat_round node_returns b.keys (current (place_in m) (view_in m) (as_found (Some found.now))) m) (m.signed ++ statements_in signings) (K.accepts (keys_after keys.old signings)) tells moments fault)) }
+        ensures ready { (tells : Bool) (moments : Items State)
+            → IsReady tells moments self.old → IsReady tells moments self.new }
+        ensures makes { Signs K.sign_gives result keys.old keys.new (λ signings. (tells : Bool) (moments : Items State)
+            → IsReady tells moments self.old → MakesRule K.accepts (repeats_current (as_found (Some found.now))) result (Quiet tt) Quiet
+                (stage self.old keys.old tells moments out.old) (stage self.new keys.new tells moments out.new) signings) }
         ensures later { K.faults keys.old ≤ K.faults keys.new }
         ensures no_disk { IfErr result TouchesNoDisk }
         ensures cause { HasNodeCause (counts 0 (K.faults keys.old)) (counts 0 (K.faults keys.new)) result }
@@ -103,8 +108,11 @@ impl Running {
         requires { IsSound self.old }
         ensures same { IsSame self.old self.new }
         ensures sound { IsSound self.new }
-        ensures ready { (tells : Bool) (moments : Items State) → IsReady tells moments self.old → IsReady tells moments self.new }
-        ensures makes { Signs K.sign_gives result keys.old keys.new (λ signings. (tells : Bool) (moments : Items State) (b : Before) (m : Step) → IsReady tells moments self.old → m.state.deeds ≡ [] → KeysFit K.accepts b.keys m.signed keys.old signings → Grows K.accepts keys.old signings → Makes b m act_of.Kept self.old (around (K.accepts keys.old) tells moments out.old) → GoesOn result (λ _. Makes b (repeats_commit node_returns b.keys digest m) act_of.Kept self.new (around (K.accepts keys.new) tells moments out.new) × ((repeats_commit node_returns b.keys digest m).signed ≡ m.signed ++ statements_in signings)) (λ fault. IsStopped b (repeats_commit node_returns b.keys digest m) (m.signed ++ statements_in signings) (K.accepts (keys_after keys.old signings)) tells moments fault)) }
+        ensures ready { (tells : Bool) (moments : Items State)
+            → IsReady tells moments self.old → IsReady tells moments self.new }
+        ensures makes { Signs K.sign_gives result keys.old keys.new (λ signings. (tells : Bool) (moments : Items State)
+            → IsReady tells moments self.old → MakesRule K.accepts (λ keys signed c. commits keys signed c digest) result (Quiet tt) Quiet
+                (stage self.old keys.old tells moments out.old) (stage self.new keys.new tells moments out.new) signings) }
         ensures later { K.faults keys.old ≤ K.faults keys.new }
         ensures no_disk { IfErr result TouchesNoDisk }
         ensures cause { HasNodeCause (counts 0 (K.faults keys.old)) (counts 0 (K.faults keys.new)) result }
@@ -125,8 +133,11 @@ impl Running {
         requires { IsSound self.old }
         ensures same { IsSame self.old self.new }
         ensures sound { IsSound self.new }
-        ensures ready { (tells : Bool) (moments : Items State) → IsReady tells moments self.old → IsReady tells moments self.new }
-        ensures makes { Signs K.sign_gives result keys.old keys.new (λ signings. (tells : Bool) (moments : Items State) (b : Before) (m : Step) → IsReady tells moments self.old → m.state.deeds ≡ [] → KeysFit K.accepts b.keys m.signed keys.old signings → Grows K.accepts keys.old signings → Makes b m act_of.Kept (record self.old { found = None }) (around (K.accepts keys.old) tells moments out.old) → GoesOn result (λ _. Makes b (repeat_round node_returns b.keys (current (place_in m) (view_in m) (as_found self.old.found)) m) act_of.Kept self.new (around (K.accepts keys.new) tells moments out.new) × ((repeat_round node_returns b.keys (current (place_in m) (view_in m) (as_found self.old.found)) m).signed ≡ m.signed ++ statements_in signings)) (λ fault. IsStopped b (repeat_round node_returns b.keys (current (place_in m) (view_in m) (as_found self.old.found)) m) (m.signed ++ statements_in signings) (K.accepts (keys_after keys.old signings)) tells moments fault)) }
+        ensures ready { (tells : Bool) (moments : Items State)
+            → IsReady tells moments self.old → IsReady tells moments self.new }
+        ensures makes { Signs K.sign_gives result keys.old keys.new (λ signings. (tells : Bool) (moments : Items State)
+            → IsReady tells moments self.old → MakesRule K.accepts (repeats_current (as_found self.old.found)) result (Quiet tt) Quiet
+                (stage (record self.old { found = None }) keys.old tells moments out.old) (stage self.new keys.new tells moments out.new) signings) }
         ensures later { K.faults keys.old ≤ K.faults keys.new }
         ensures no_disk { IfErr result TouchesNoDisk }
         ensures cause { HasNodeCause (counts 0 (K.faults keys.old)) (counts 0 (K.faults keys.new)) result }

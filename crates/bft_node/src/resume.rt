@@ -41,7 +41,8 @@ fn newest_prepared(prepared: Option<(Vote, Block)>) -> Option<Vote>
 fn held_in(durable: Durable) -> Held
     ensures view { result.view ≡ durable.view }
     ensures left { result.left ≡ durable.left }
-    ensures accepted { (view : ℕ) → block_of_view view result.accepted ≡ accepted_in view durable.accepted durable.block }
+    ensures accepted { (view : ℕ) → block_of_view view result.accepted
+        ≡ accepted_in view durable.accepted durable.block }
     ensures prepared { (view : ℕ) → is_of_view view result.prepared ≡ is_prepared_in view durable.prepared }
 {
     let block = durable.block;
@@ -58,7 +59,9 @@ fn held_in(durable: Durable) -> Held
 impl Store {
     // What is durable of a view at the ledger's place.
     fn found(&self, alloc: Global) -> Result<Held, NoMemory>
-        ensures { IfOk result (λ held. (me : ℕ) → resumed me (place_after (config_of self.now) (held_of self.now).blocks) held ≡ (opened (config_of self.now) me (held_of self.now)).core.view) }
+        ensures { IfOk result (λ held. (me : ℕ)
+            → resumed me (place_after (config_of self.now) (held_of self.now).blocks) held
+            ≡ (opened (config_of self.now) me (held_of self.now)).view) }
     {
         let place = self.ledger.place();
         let durable = self.wal.durable(alloc, place.config.number, place.height)?;
@@ -68,7 +71,7 @@ impl Store {
     /// The view of a member of this id that is opened on what the store holds.
     pub fn resumed(&self, alloc: Global, me: u32) -> Result<ViewState, NoMemory>
         requires { IsPlace (place_after (config_of self.now) (held_of self.now).blocks) }
-        ensures { IfOk result (λ view. view ≡ (opened (config_of self.now) me (held_of self.now)).core.view) }
+        ensures { IfOk result (λ view. view ≡ (opened (config_of self.now) me (held_of self.now)).view) }
     {
         let place = self.ledger.place();
         let held = self.found(alloc)?;

@@ -1,13 +1,12 @@
 //! The messages of a step.
 ghost use Rattle.std.specs.Prelude.{◌≡◌, ◌++◌, OnOk, IfOk, IfSome, map, length, [], ◌∷◌};
-ghost use Rattle.std.specs.List.{flat_map};
 ghost use Rattle.ord_types.specs.Lengths.{FitsBlock, FitsCert};
 ghost use Rattle.bft_wire.specs.Lengths.{FitsMessage};
 ghost use Rattle.view_model.specs.Acts.{carried_cert};
-ghost use Rattle.node_model.specs.Restarts.{repeated_votes};
-ghost use Rattle.node_model.specs.Steps.{prepare_message, preprepare_message, to_all};
+ghost use Rattle.node_model.specs.Entries.{Sent, others, posts_in};
+ghost use Rattle.node_model.specs.Steps.{prepare_message, preprepare_message};
 ghost use Rattle.view_core.specs.Places.{IsPlace};
-ghost use Rattle.bft_node.specs.Making.{sent_of, text_of};
+ghost use Rattle.bft_node.specs.Making.{sent_of, sent_to_others, text_of};
 ghost use Rattle.bft_node.specs.Running.{IsSound, place_of};
 
 use crate::live::{Out, Post, Running};
@@ -25,7 +24,8 @@ fn send_to_all(
     sends: &mut List<Post>,
 ) -> Result<(), NoMemory>
     requires { FitsMessage message.now }
-    ensures { OnOk result (map sent_of sends.new ≡ map sent_of sends.old ++ map text_of (to_all members.now from message.now)) }
+    ensures { OnOk result (map sent_of sends.new
+        ≡ map sent_of sends.old ++ map text_of (posts_in (Sent (others members.now from) message.now))) }
 {
     let mut bytes = Bytes::new(alloc);
     encode(message, &mut bytes)?;
@@ -58,7 +58,8 @@ impl Running {
     /// Sends a message to all other members.
     pub(crate) fn send(&self, message: &Message, out: &mut Out) -> Result<(), NoMemory>
         requires { FitsMessage message.now }
-        ensures sent { OnOk result (map sent_of out.new.sends ≡ map sent_of out.old.sends ++ map text_of (to_all (place_of self.now).config.members self.now.id message.now)) }
+        ensures sent { OnOk result (map sent_of out.new.sends ≡ map sent_of out.old.sends
+            ++ sent_to_others self.now (message.now ∷ [])) }
         ensures facts { out.new.facts ≡ out.old.facts }
         ensures done { out.new.done ≡ out.old.done }
     {
@@ -68,7 +69,8 @@ impl Running {
 
     /// What follows an acceptance: a Prepare to all.
     pub(crate) fn send_prepare(&self, block: &Block, out: &mut Out) -> Result<(), NoMemory>
-        ensures sent { OnOk result (map sent_of out.new.sends ≡ map sent_of out.old.sends ++ map text_of (to_all (place_of self.now).config.members self.now.id (prepare_message (place_of self.now) self.now.view block.now))) }
+        ensures sent { OnOk result (map sent_of out.new.sends ≡ map sent_of out.old.sends
+            ++ sent_to_others self.now (prepare_message (place_of self.now) self.now.view block.now ∷ [])) }
         ensures facts { out.new.facts ≡ out.old.facts }
         ensures done { out.new.done ≡ out.old.done }
     {
@@ -86,7 +88,9 @@ impl Running {
     pub(crate) fn send_proposal(&self, block: &Block, out: &mut Out) -> Result<(), NoMemory>
         requires place { IsPlace (place_of self.now) }
         requires fits { FitsBlock block.now }
-        ensures sent { OnOk result (map sent_of out.new.sends ≡ map sent_of out.old.sends ++ map text_of (flat_map (to_all (place_of self.now).config.members self.now.id) (preprepare_message (place_of self.now) self.now.view block.now ∷ prepare_message (place_of self.now) self.now.view block.now ∷ []))) }
+        ensures sent { OnOk result (map sent_of out.new.sends ≡ map sent_of out.old.sends
+            ++ sent_to_others self.now (preprepare_message (place_of self.now) self.now.view block.now
+                ∷ prepare_message (place_of self.now) self.now.view block.now ∷ [])) }
         ensures facts { out.new.facts ≡ out.old.facts }
         ensures done { out.new.done ≡ out.old.done }
     {

@@ -11,7 +11,12 @@ ghost use Rattle.block_ledger.specs.Chains.{IsChain};
 ghost use Rattle.block_ledger.specs.Entries.{HasEntrySpelling};
 ghost use Rattle.block_ledger.specs.Judging.{next_refusal};
 ghost use Rattle.block_ledger.specs.Places.{place_after};
-ghost use Rattle.node_model.specs.Deeds.{Accepts as Accepting, Prepares as Preparing, Delivers as Delivering, Deed as SomeDeed};
+ghost use Rattle.node_model.specs.Entries.{
+  Accepts as Accepting,
+  Prepares as Preparing,
+  Delivers as Delivering,
+  Deed as SomeDeed,
+};
 ghost use Rattle.bft_node.specs.Crashes.{Within};
 ghost use Rattle.bft_node.specs.Held.{with_deed};
 ghost use Rattle.bft_node.specs.Stores.{IsKept, IsStoredAs, OnRefusal, OthersStay, WriteAnswers, config_of, held_of, ledger_limit, log_limit, ledger_write_fault, log_write_fault};
@@ -58,16 +63,20 @@ impl Store {
         requires spelled { HasRecordSpelling entry.now }
 
         ensures kept { IsTrue (D.tells disk.old) → OnOk result (IsKept self.new (now (D.moments disk.new))) }
-        ensures added { (deed : SomeDeed) → IsStoredAs deed entry.now → OnOk result (held_of self.new ≡ with_deed deed (held_of self.old)) }
+        ensures added { (deed : SomeDeed) → IsStoredAs deed entry.now → OnOk result (held_of self.new ≡ with_deed deed
+            (held_of self.old)) }
         ensures ledger { self.new.ledger ≡ self.old.ledger }
         ensures any_moment { (deed : SomeDeed) (accepts : SomeAccepts) → IsStoredAs deed entry.now → IsTrue (D.tells disk.old)
             → IsChain accepts (config_of self.old) (held_of self.old).blocks
-            → Went (Within accepts (config_of self.old) (deed ∷ []) (held_of self.old)) (D.moments disk.old) (D.moments disk.new) }
-        ensures others { IsTrue (D.tells disk.old) → Went (OthersStay (now (D.moments disk.old))) (D.moments disk.old) (D.moments disk.new) }
+            → Went (Within accepts (config_of self.old) (deed ∷ []) (held_of self.old))
+            (D.moments disk.old) (D.moments disk.new) }
+        ensures others { IsTrue (D.tells disk.old) → Went (OthersStay (now (D.moments disk.old)))
+            (D.moments disk.old) (D.moments disk.new) }
         ensures refused { OnRefusal result ((self.new ≡ self.old) × (disk.new ≡ disk.old)) }
         ensures tells { D.tells disk.new ≡ D.tells disk.old }
         ensures later { D.faults disk.old ≤ D.faults disk.new }
-        ensures cause { WriteAnswers (log_limit self.old entry.now) (D.faults disk.old) (D.faults disk.new) result }
+        ensures cause { WriteAnswers (log_limit self.old entry.now)
+            (D.faults disk.old) (D.faults disk.new) result }
     {
         match self.wal.append(alloc, disk, entry) {
             Ok(()) => Ok(()),
@@ -92,19 +101,24 @@ impl Store {
         requires block { HasBlockSpelling block }
 
         ensures kept { IsTrue (D.tells disk.old) → OnOk result (IsKept self.new (now (D.moments disk.new))) }
-        ensures added { (id : ℕ) → OnOk result (held_of self.new ≡ with_deed (Accepting id config view number block) (held_of self.old)) }
+        ensures added { (id : ℕ) → OnOk result (held_of self.new ≡ with_deed (Accepting id config view number block)
+            (held_of self.old)) }
         ensures ledger { self.new.ledger ≡ self.old.ledger }
 
         // A crash at any moment of the call opens to what was held with this deed or without. No other file changes.
-        ensures any_moment { (id : ℕ) (accepts : SomeAccepts) → IsTrue (D.tells disk.old) → IsChain accepts (config_of self.old) (held_of self.old).blocks
-            → Went (Within accepts (config_of self.old) (Accepting id config view number block ∷ []) (held_of self.old)) (D.moments disk.old) (D.moments disk.new) }
-        ensures others { IsTrue (D.tells disk.old) → Went (OthersStay (now (D.moments disk.old))) (D.moments disk.old) (D.moments disk.new) }
+        ensures any_moment { (id : ℕ) (accepts : SomeAccepts) → IsTrue (D.tells disk.old)
+            → IsChain accepts (config_of self.old) (held_of self.old).blocks
+            → Went (Within accepts (config_of self.old) (Accepting id config view number block ∷ []) (held_of self.old))
+            (D.moments disk.old) (D.moments disk.new) }
+        ensures others { IsTrue (D.tells disk.old) → Went (OthersStay (now (D.moments disk.old)))
+            (D.moments disk.old) (D.moments disk.new) }
 
         // Want of memory and a length that is too great leave store and disk as they were.
         ensures refused { OnRefusal result ((self.new ≡ self.old) × (disk.new ≡ disk.old)) }
         ensures tells { D.tells disk.new ≡ D.tells disk.old }
         ensures later { D.faults disk.old ≤ D.faults disk.new }
-        ensures cause { WriteAnswers (log_limit self.old (WalRecord.Accepted config view number block)) (D.faults disk.old) (D.faults disk.new) result }
+        ensures cause { WriteAnswers (log_limit self.old (WalRecord.Accepted config view number block))
+            (D.faults disk.old) (D.faults disk.new) result }
     {
         let entry = WalRecord::Accepted {
             config,
@@ -129,15 +143,20 @@ impl Store {
         requires numbers { IsNumber config × IsNumber view × IsNumber number }
 
         ensures kept { IsTrue (D.tells disk.old) → OnOk result (IsKept self.new (now (D.moments disk.new))) }
-        ensures added { (id : ℕ) → OnOk result (held_of self.new ≡ with_deed (Preparing id config view number digest) (held_of self.old)) }
+        ensures added { (id : ℕ) → OnOk result (held_of self.new ≡ with_deed (Preparing id config view number digest)
+            (held_of self.old)) }
         ensures ledger { self.new.ledger ≡ self.old.ledger }
-        ensures any_moment { (id : ℕ) (accepts : SomeAccepts) → IsTrue (D.tells disk.old) → IsChain accepts (config_of self.old) (held_of self.old).blocks
-            → Went (Within accepts (config_of self.old) (Preparing id config view number digest ∷ []) (held_of self.old)) (D.moments disk.old) (D.moments disk.new) }
-        ensures others { IsTrue (D.tells disk.old) → Went (OthersStay (now (D.moments disk.old))) (D.moments disk.old) (D.moments disk.new) }
+        ensures any_moment { (id : ℕ) (accepts : SomeAccepts) → IsTrue (D.tells disk.old)
+            → IsChain accepts (config_of self.old) (held_of self.old).blocks
+            → Went (Within accepts (config_of self.old) (Preparing id config view number digest ∷ []) (held_of self.old))
+            (D.moments disk.old) (D.moments disk.new) }
+        ensures others { IsTrue (D.tells disk.old) → Went (OthersStay (now (D.moments disk.old)))
+            (D.moments disk.old) (D.moments disk.new) }
         ensures refused { OnRefusal result ((self.new ≡ self.old) × (disk.new ≡ disk.old)) }
         ensures tells { D.tells disk.new ≡ D.tells disk.old }
         ensures later { D.faults disk.old ≤ D.faults disk.new }
-        ensures cause { WriteAnswers (log_limit self.old (WalRecord.Prepared config view number digest)) (D.faults disk.old) (D.faults disk.new) result }
+        ensures cause { WriteAnswers (log_limit self.old (WalRecord.Prepared config view number digest))
+            (D.faults disk.old) (D.faults disk.new) result }
     {
         let entry = WalRecord::Prepared {
             config,
@@ -162,7 +181,8 @@ impl Store {
         requires next { next_refusal (V.accepts verifier.now) (place_after (config_of self.old) (held_of self.old).blocks) (block, Bft cert) ≡ None }
 
         ensures kept { IsTrue (D.tells disk.old) → OnOk result (IsKept self.new (now (D.moments disk.new))) }
-        ensures added { (id : ℕ) → OnOk result (held_of self.new ≡ with_deed (Delivering id block cert) (held_of self.old)) }
+        ensures added { (id : ℕ) → OnOk result (held_of self.new ≡ with_deed (Delivering id block (Bft cert))
+            (held_of self.old)) }
         ensures config { config_of self.new ≡ config_of self.old }
         ensures log { self.new.wal ≡ self.old.wal }
         ensures same { OnErr result ((held_of self.new).blocks ≡ (held_of self.old).blocks) }
@@ -170,14 +190,18 @@ impl Store {
             → IsChain (V.accepts verifier.now) (config_of self.old) (held_of self.new).blocks) }
 
         // So it is for all that the verifier accepts, and where more is accepted.
-        ensures any_moment { (id : ℕ) (accepts : SomeAccepts) → IsTrue (D.tells disk.old) → KeepsAccepted (V.accepts verifier.now) accepts
+        ensures any_moment { (id : ℕ) (accepts : SomeAccepts) → IsTrue (D.tells disk.old)
+            → KeepsAccepted (V.accepts verifier.now) accepts
             → IsChain (V.accepts verifier.now) (config_of self.old) (held_of self.old).blocks
-            → Went (Within accepts (config_of self.old) (Delivering id block cert ∷ []) (held_of self.old)) (D.moments disk.old) (D.moments disk.new) }
-        ensures others { IsTrue (D.tells disk.old) → Went (OthersStay (now (D.moments disk.old))) (D.moments disk.old) (D.moments disk.new) }
+            → Went (Within accepts (config_of self.old) (Delivering id block (Bft cert) ∷ []) (held_of self.old))
+            (D.moments disk.old) (D.moments disk.new) }
+        ensures others { IsTrue (D.tells disk.old) → Went (OthersStay (now (D.moments disk.old)))
+            (D.moments disk.old) (D.moments disk.new) }
         ensures refused { OnRefusal result ((self.new ≡ self.old) × (disk.new ≡ disk.old)) }
         ensures tells { D.tells disk.new ≡ D.tells disk.old }
         ensures later { D.faults disk.old ≤ D.faults disk.new }
-        ensures cause { WriteAnswers (ledger_limit self.old (block, Bft cert)) (D.faults disk.old) (D.faults disk.new) result }
+        ensures cause { WriteAnswers (ledger_limit self.old (block, Bft cert))
+            (D.faults disk.old) (D.faults disk.new) result }
     {
         match self
             .ledger
