@@ -42,7 +42,6 @@ use Rattle.node_model.specs.Entries.{
   Leaves,
   Enters,
   Deed,
-  Event,
   Entry,
   Opened,
   Came,
@@ -53,6 +52,7 @@ use Rattle.node_model.specs.Entries.{
   statements_of,
   stored_of,
 }
+use Rattle.node_model.specs.declared.event.Event.{Event}
 use Rattle.node_model.specs.Steps.{Keys, step}
 use Rattle.bft_node.specs.Crashes.{Image, IsCrash, Opens, Within}
 use Rattle.bft_node.specs.Held.{Held, with_block, with_deed, with_deeds}
@@ -194,6 +194,9 @@ same_chain x y is = cc
 same_ok : (x y : List WalRecord) → ◌≡◌ {A = Result (List WalRecord) ℕ} (Ok x) (Ok y) → x ≡ y
 same_ok x y is = cc
 
+abbrev held_with : List Stored → List WalRecord → Held
+held_with bs rs = record { blocks = bs; records = rs }
+
 -- a node that was opened on files that keep a chain and what a node did
 pub found_again : (accepts : Acceptance) (c : Config) (me : ℕ) (before after : State) (r : Running)
     → r.id ≡ me → config_of r.store ≡ c → IsChain accepts c (chain_of r)
@@ -222,6 +225,3 @@ found_again accepts c me before after r id config is_chain state opens kept chai
         kept = kept;
       };
     }
-  where
-    abbrev held_with : List Stored → List WalRecord → Held
-    held_with bs rs = record { blocks = bs; records = rs }

@@ -54,7 +54,6 @@ use Rattle.node_model.specs.Entries.{
   Delivers,
   Leaves,
   Enters,
-  Event,
   Entry,
   Opened,
   Came,
@@ -66,6 +65,7 @@ use Rattle.node_model.specs.Entries.{
   offer_in,
   statements_of,
 }
+use Rattle.node_model.specs.declared.event.Event.{Event}
 use Rattle.node_model.specs.Steps.{
   Keys,
   Rule,

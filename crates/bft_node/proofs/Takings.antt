@@ -37,8 +37,9 @@ use Rattle.block_ledger.proofs.Placing.{height_of_place}
 use Rattle.view_model.specs.declared.act.Act.TheVariants as act_of
 use Rattle.view_model.specs.Acts.{View}
 use Rattle.node_model.specs.Cores.{Core, Found, after_entries}
-use Rattle.node_model.specs.Entries.{Deed, Entry, Event, deeds_of, statements_of}
+use Rattle.node_model.specs.Entries.{Deed, Entry, deeds_of, statements_of}
 use Rattle.node_model.specs.Laws.{IsPlaced}
+use Rattle.node_model.specs.declared.event.Event.{Event}
 use Rattle.node_model.specs.Steps.{Keys, duty, step}
 use Rattle.node_model.proofs.EndLemmas.{step_ends}
 use Rattle.view_core.specs.Places.{IsPlace}

@@ -11,7 +11,7 @@ use Rattle.signer_edge.specs.Accepts.{Accepts as Acceptance}
 use Rattle.signer_edge.specs.Seals.{Seat, SealsOne, is_sealed}
 use Rattle.block_ledger.specs.Chains.{Entry as Stored, IsChain}
 use Rattle.node_model.specs.Cores.{Core}
-use Rattle.node_model.specs.Entries.{Event}
+use Rattle.node_model.specs.declared.event.Event.{Event}
 use Rattle.bft_node.specs.Crashes.{Image as Files}
 use Rattle.bft_node.specs.NodeOpenings.{IsFoundAgain, files_at}
 use Rattle.bft_node.specs.NodeFaults.{HasNodeCause, counts}

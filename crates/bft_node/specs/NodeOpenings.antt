@@ -23,11 +23,11 @@ abbrev pub files_at : State → Image
 files_at state file = (state file).reads
 
 -- A node that was found again with this chain as it was, but for the vote messages that it kept.
-pub record IsFoundAgain (accepts : Accepts) (r : Running) (state : State) (chain : List Stored) (core : Core)
+pub record IsFoundAgain (accepts : Accepts) (r : Running) (disk : State) (blocks : List Stored) (core : Core)
     : Type 0 where
-  pub chain : chain_of r ≡ chain
+  pub chain : chain_of r ≡ blocks
   pub state : state_of r ≡ after_opening core
-  pub holds : Holds accepts r state
+  pub holds : Holds accepts r disk
 
 -- What the files kept of a node before an opening is found, and held on the disk after it.
 abbrev pub FindsAgain : Accepts → Config → ℕ → State → State → Result Node OpenFault → Type 0

@@ -5,7 +5,8 @@ use Rattle.gate_log.specs.Runs.{Went}
 use Rattle.signer_edge.specs.Accepts.{Accepts as Acceptance}
 use Rattle.signer_edge.specs.Signing.{KeepsAccepted}
 use Rattle.node_model.specs.Cores.{after_entries}
-use Rattle.node_model.specs.Entries.{Entry, Event, deeds_of, facts_of, statements_of, stored_of}
+use Rattle.node_model.specs.Entries.{Entry, deeds_of, facts_of, statements_of, stored_of}
+use Rattle.node_model.specs.declared.event.Event.{Event}
 use Rattle.node_model.specs.Steps.{Keys, duty, step}
 use Rattle.bft_node.specs.Crashes.{Image, IsCrash}
 use Rattle.bft_node.specs.Making.{IsFront, done_in, sends_of, sent_of}

@@ -40,10 +40,10 @@ pub record KeepsFront (accepts : Acceptance) (old : Running) (made : List Entry)
       (after_entries (take cut made) (state_of old))
 
 -- The same, where the statements that were signed are those of that front.
-pub record KeepsSigned (accepts : Acceptance) (old : Running) (made : List Entry) (signed : List (List ℕ))
-    (image : Image) : Type 0 where
+pub record KeepsSigned (accepts : Acceptance) (old : Running) (made : List Entry)
+    (statements : List (List ℕ)) (image : Image) : Type 0 where
   pub front : KeepsFront accepts old made image
-  pub signed : signed ≡ statements_of (take front.cut made)
+  pub signed : statements ≡ statements_of (take front.cut made)
 
 -- LAWS
 

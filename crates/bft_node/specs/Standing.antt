@@ -8,7 +8,8 @@ use Rattle.bft_wal.specs.Fold.{is_accepted, tally_of, view_accepted}
 use Rattle.bft_wal.specs.declared.record.WalRecord.{WalRecord}
 use Rattle.block_ledger.specs.Chains.{genesis_entry}
 use Rattle.node_model.specs.Cores.{Core, after_deed, after_entries, after_opening, core_on}
-use Rattle.node_model.specs.Entries.{Deed, Accepts, Prepares, Delivers, Leaves, Enters, Event, deeds_of}
+use Rattle.node_model.specs.Entries.{Deed, Accepts, Prepares, Delivers, Leaves, Enters, deeds_of}
+use Rattle.node_model.specs.declared.event.Event.{Event}
 use Rattle.node_model.specs.Laws.{IsStanding}
 use Rattle.node_model.specs.Steps.{Keys, step}
 use Rattle.bft_node.specs.Held.{Held, with_deeds}
