@@ -4,6 +4,7 @@ ghost use Rattle.std.specs.Prelude.{
   ◌≤◌,
   ◌↔◌,
   ℕ,
+  true,
   false,
   is_err,
   IfOk,
