@@ -212,7 +212,7 @@ module _ (model : Keys) (old new : Running) (event : Event) (signed : List (List
                 some = left.some;
                 keeps = front_keeps judge old model event holds.stands left.cut image left.opens;
               };
-              signed = left.signed;
+              signed = left.signatures;
             };
         holds = λ t. tt;
         limit = subst (HasLimit tells (held_of old.store) (deeds_of made)) (sym is) h.limit;

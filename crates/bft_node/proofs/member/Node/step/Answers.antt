@@ -39,5 +39,5 @@ returns-clause-step g c = λ runs.
     takes_as model old c.step.new.self c.args.event (statements_in xs) first _ _ _ _ _ before after
     (ap accepts at) c.step.ensures.tells
     (takes_ok model old c.step.new.self c.args.event (statements_in xs) first _ (g.D.Disk.tells c.step.new.disk) before after c.step.new.out made.0
-    made.1 ? ready.sound.place ready.kept))
+    made.1 (c.args.self.now.sound runs).at.height ready.sound.place ready.kept))
     c.in_ok-step.ensures.makes
