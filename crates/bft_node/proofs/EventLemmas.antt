@@ -1,6 +1,33 @@
 -- What comes to a node, and the step of the definition that begins with it.
-use Rattle.std.proofs.Common.{◌≡◌, ℕ, Bool, ◌==◌, List, [], ◌∷◌, Option, Some, None, option_map, option_and_then, Result, Ok, Err, OnOk, OnErr, inl, inr, refl, sym, ap, subst, ◌∙◌}
+use Rattle.std.proofs.Common.{
+  ◌≡◌,
+  ℕ,
+  Bool,
+  ◌==◌,
+  List,
+  [],
+  ◌∷◌,
+  ◌++◌,
+  Option,
+  Some,
+  None,
+  option_map,
+  option_and_then,
+  Result,
+  Ok,
+  Err,
+  OnOk,
+  OnErr,
+  inl,
+  inr,
+  refl,
+  sym,
+  ap,
+  subst,
+  ◌∙◌,
+}
 use Rattle.std.proofs.lemmas.Bool.{cases_Bool, eq-eqb, ne_eqb}
+use Rattle.std.proofs.lemmas.List.{append-nil}
 use Rattle.ord_types.specs.Grammar.{IsNumber}
 use Rattle.ord_types.specs.declared.values.Block.{Block}
 use Rattle.ord_types.specs.declared.values.Place.{Place}
@@ -18,17 +45,52 @@ use Rattle.view_model.specs.declared.act.Act.TheVariants as act_of
 use Rattle.view_model.specs.declared.letter.Letter.{Letter}
 use Rattle.view_model.specs.declared.letter.VoteMessage.{VoteMessage}
 use Rattle.view_model.specs.declared.letter.VoteMessage.TheVariants as vote_of
-use Rattle.view_model.specs.Acts.{View, accept_act, due, proposed}
-use Rattle.view_model.specs.Answers.{accepts_nothing, act_or, after_act, after_prepare, after_propose, after_vote, at_place, is_new, kept_after, prepare_answer, propose_answer, reason_or, vote_answer}
-use Rattle.node_model.specs.Cores.{Core, core_comes, core_hears}
-use Rattle.node_model.specs.Deeds.{unlogged}
+use Rattle.view_model.specs.Acts.{View, accept_act, proposed}
+use Rattle.view_model.specs.Answers.{
+  accepts_nothing,
+  act_or,
+  after_act,
+  after_prepare,
+  after_propose,
+  after_vote,
+  at_place,
+  is_new,
+  kept_after,
+  prepare_answer,
+  propose_answer,
+  reason_or,
+  vote_answer,
+}
 use Rattle.view_model.specs.Letters.{Commit, PrePrepare, Prepare, letter_in, vote_in}
-use Rattle.node_model.specs.Restarts.{found_after}
-use Rattle.node_model.specs.Steps as steps
-use Rattle.node_model.specs.Steps.{FromMember, begins, makes_accepted, preprepare_message, propose_round}
+use Rattle.node_model.specs.Cores.{Core, Found, after_event, after_letter}
+use Rattle.node_model.specs.Entries.{Entry, letter_brought, statements_of}
+use Rattle.node_model.specs.declared.event.Event.{Event}
+use Rattle.node_model.specs.declared.event.Event.TheVariants.{FromMember, Tick}
+use Rattle.node_model.specs.Steps.{
+  all_due,
+  comes,
+  duty,
+  own_rule,
+  preprepare_message,
+  prepare_message,
+  proposes,
+  step,
+}
 use Rattle.view_core.specs.Places.{StandsAt}
+use Rattle.bft_node.specs.Calls.{TellsDue, after_rule, repeats_current}
 use Rattle.bft_node.specs.Held.{Held}
-use Rattle.bft_node.specs.Making.{Around, Before, Begins, Makes, Step, Tells, act_in, node_ways, place_in, view_in}
+use Rattle.bft_node.specs.Making.{
+  Around,
+  Before,
+  Begins,
+  Makes,
+  Tells,
+  accepts_in,
+  core_in,
+  duty_in,
+  place_in,
+  view_in,
+}
 use Rattle.bft_node.specs.NodeFaults.{TouchesNoDisk}
 use Rattle.bft_node.specs.Running.{IsReady, IsSound, as_found, place_of, state_of}
 use Rattle.bft_node.specs.Stores.{config_of, held_of}
@@ -36,8 +98,19 @@ use Rattle.bft_node.specs.declared.live.Running.{Running}
 use Rattle.bft_node.specs.declared.node_fault.NodeFault.{NodeFault}
 use Rattle.bft_node.specs.declared.node_fault.NodeFault.TheVariants as node_of
 use Rattle.bft_node.specs.declared.store.Store.{Store}
-use Rattle.bft_node.proofs.MakingLemmas.{Extends, Makes-view, extends_same, front_more, front_of}
-use Rattle.bft_node.proofs.ViewLemmas.{StandsAt-after_act, StandsAt-kept_after, act_in-vote_answer, at_place-at, due-prepared, left-kept, left-prepared, me-after_act, me-kept_after}
+use Rattle.bft_node.proofs.MakingLemmas.{makes_as, makes_view, statements-append}
+use Rattle.bft_node.proofs.ToldLemmas.{duty-same}
+use Rattle.bft_node.proofs.ViewLemmas.{
+  StandsAt-after_act,
+  StandsAt-kept_after,
+  at_place-at,
+  due-prepared,
+  duty_in-vote_answer,
+  left-kept,
+  left-prepared,
+  me-after_act,
+  me-kept_after,
+}
 
 -- A VIEW THAT CHANGED
 
@@ -106,27 +179,41 @@ vote_view result r accepts p letter left s here ok err =
 
 -- WHERE A STEP BEGINS
 
-abbrev pub core_of : Running → Core
-core_of r = record { place = place_of r; view = r.view }
+-- the state of a node that heard an event
+abbrev pub heard : Event → Accepts → Running → Core
+heard event accepts r = after_event event accepts (state_of r)
 
--- it begins with this view
-abbrev pub BeginsWith : Before → Running → steps.Event → View → Type 0
-BeginsWith b r event w = core_comes event (b.keys.accepts []) (core_of r) ≡ core_of (with_view r w)
+me-after_letter : (o : Option Letter) (accepts : Accepts) (p : Place) (w : View) → (after_letter o accepts p w).me ≡ w.me
+me-after_letter None accepts p w = refl
+me-after_letter (Some letter) accepts p w =
+    elim (cases_Bool (letter.from == w.me)) [
+      | inl e ↦ rw e refl
+      | inr e ↦ rw e (me-kept_after accepts p w letter)
+    ]
 
-pub begun : (b : Before) (r new : Running) (a : Around) (event : steps.Event) (told : Act) (came : View) → Begins b r a → r.view.me ≡ r.id → new.id ≡ r.id → new.store ≡ r.store
-    → as_found new.found ≡ found_after event (as_found r.found) → BeginsWith b r event came → came.me ≡ r.view.me → new.view ≡ after_act told came
-    → Makes b (begins node_ways b.keys (unlogged (state_of r)) event) told new a
-begun b r new a event told came h mine id store found comes me view =
-    let place : place_of new ≡ place_of r = ap (λ (s : Store). place_after (config_of s) (held_of s).blocks) store in
+-- as in the step of the definition
+heard_as : (b : Before) (r : Running) (a : Around) (event : Event) → Begins b r a
+    → heard event a.accepts r ≡ core_in b (comes b.keys event [] b.core)
+heard_as b r a event h =
+    ap (λ (k : Accepts). heard event k r) (sym h.accepts)
+    ∙ ap (λ (c : Core). after_event event (b.keys.accepts []) c) h.core
+
+pub begun : (b : Before) (r new : Running) (a : Around) (event : Event) (told : Act) → Begins b r a → r.view.me ≡ r.id
+    → new.id ≡ r.id → new.store ≡ r.store → as_found new.found ≡ (heard event a.accepts r).found
+    → new.view ≡ after_act told (heard event a.accepts r).view → Makes b (comes b.keys event [] b.core) told new a
+begun b r new a event told h mine id store found view =
+    let e = heard_as b r a event h in
     let first : IsChain b.first b.config b.held.blocks → IsChain a.accepts b.config (held_of r.store).blocks = λ began.
-    subst (λ (x : Held). IsChain a.accepts b.config x.blocks) (sym h.held) (subst (λ (k : Accepts). IsChain k b.config b.held.blocks) h.first began) in
+    subst (λ (x : Held). IsChain a.accepts b.config x.blocks) (sym h.held)
+    (subst (λ (k : Accepts). IsChain k b.config b.held.blocks) h.first began) in
     record {
       id = id ∙ h.id;
       config = ap config_of store ∙ h.config;
-      place = place ∙ sym (ap (λ (c : Core). c.place) comes);
-      view = view ∙ ap (λ (c : Core). after_act told c.view) (sym comes);
-      me = ap (λ (c : Core). c.view.me) comes ∙ me ∙ mine ∙ h.id;
-      found = found;
+      place = ap (λ (s : Store). place_after (config_of s) (held_of s).blocks) store ∙ ap (λ (c : Core). c.place) e;
+      view = view ∙ ap (λ (c : Core). after_act told c.view) e;
+      me = ap (λ (c : Core). c.view.me) (sym e)
+          ∙ me-after_letter (letter_brought event) a.accepts (place_of r) r.view ∙ mine ∙ h.id;
+      found = found ∙ ap (λ (c : Core). c.found) e;
       held = ap held_of store ∙ h.held;
       facts = h.facts;
       sends = h.sends;
@@ -137,14 +224,74 @@ begun b r new a event told came h mine id store found comes me view =
     }
 
 -- with the act that is due then
-pub begun_told : (b : Before) (r new : Running) (a : Around) (from : ℕ) (bytes : List ℕ) (told : Act) (came : View) → Begins b r a → r.view.me ≡ r.id → new.id ≡ r.id → new.store ≡ r.store
-    → new.found ≡ r.found → BeginsWith b r (FromMember from bytes) came → came.me ≡ r.view.me → new.view ≡ after_act told came
-    → act_in told ≡ due a.accepts (place_of r) came → Tells b (begins node_ways b.keys (unlogged (state_of r)) (FromMember from bytes)) told new a
-begun_told b r new a from bytes told came h mine id store found comes me view told_due =
+pub begun_told : (b : Before) (r new : Running) (a : Around) (from : ℕ) (bytes : List ℕ) (told : Act) (accepts : Accepts)
+    → accepts ≡ a.accepts → Begins b r a → r.view.me ≡ r.id
+    → TellsDue accepts (heard (FromMember from bytes) accepts r) told r new
+    → Tells b (comes b.keys (FromMember from bytes) [] b.core) told new a
+begun_told b r new a from bytes told accepts is h mine t =
+    let event : Event = FromMember from bytes in
+    let same = ap (λ (k : Accepts). heard event k r) is in
+    let e = same ∙ heard_as b r a event h in
     record {
-      makes = begun b r new a (FromMember from bytes) told came h mine id store (ap as_found found) comes me view;
-      due = told_due ∙ ap (λ (k : Accepts). due k (place_of r) came) (sym h.accepts) ∙ ap (λ (c : Core). due (b.keys.accepts []) c.place c.view) (sym comes);
+      makes = begun b r new a event told h mine t.id t.store (ap as_found t.found)
+          (t.view ∙ ap (λ (c : Core). after_act told c.view) same);
+      due = t.due ∙ ap (λ (k : Accepts). duty k (heard event accepts r)) (is ∙ sym h.accepts)
+          ∙ ap (λ (c : Core). duty (b.keys.accepts []) c) e;
     }
+
+-- a message that came, and nothing was told yet
+pub message_begun : (b : Before) (r : Running) (a : Around) (from : ℕ) (bytes : List ℕ) → Begins b r a
+    → r.view.me ≡ r.id
+    → Makes b (comes b.keys (FromMember from bytes) [] b.core) act_of.Kept
+        (record r { view = (heard (FromMember from bytes) a.accepts r).view }) a
+message_begun b r a from bytes h mine =
+    begun b r (record r { view = (heard (FromMember from bytes) a.accepts r).view }) a (FromMember from bytes) act_of.Kept h
+    mine refl refl refl refl
+
+-- a tick takes what was found
+pub tick_begun : (b : Before) (r : Running) (a : Around) (offer : List Request) → Begins b r a → r.view.me ≡ r.id
+    → Makes b (comes b.keys (Tick offer) [] b.core) act_of.Kept (record r { found = None }) a
+tick_begun b r a offer h mine =
+    begun b r (record r { found = None }) a (Tick offer) act_of.Kept h mine refl refl refl refl
+
+-- THE STEP OF THE DEFINITION
+
+pub message_step : (b : Before) (from : ℕ) (bytes : List ℕ)
+    → after_rule (all_due b.keys) b (comes b.keys (FromMember from bytes) [] b.core)
+    ≡ step b.keys b.core (FromMember from bytes)
+unfolding step
+message_step b from bytes = refl
+
+abbrev pub ticked : Before → Running → List Request → List Entry
+ticked b r offer =
+    after_rule (repeats_current (as_found r.found) b.keys) b (comes b.keys (Tick offer) [] b.core)
+
+abbrev pub offered_in : Before → Running → List Request → List Entry
+offered_in b r offer = after_rule (own_rule (Tick offer)) b (ticked b r offer)
+
+abbrev ticks_with : Before → List Request → Option Found → List Entry
+ticks_with b offer found =
+    after_rule (all_due b.keys) b (after_rule (own_rule (Tick offer)) b
+    (after_rule (repeats_current found b.keys) b (comes b.keys (Tick offer) [] b.core)))
+
+ticks_are : (b : Before) (offer : List Request) → ticks_with b offer b.core.found ≡ step b.keys b.core (Tick offer)
+unfolding step
+ticks_are b offer = refl
+
+pub tick_step : (b : Before) (r : Running) (a : Around) (offer : List Request) → Begins b r a
+    → after_rule (all_due b.keys) b (offered_in b r offer) ≡ step b.keys b.core (Tick offer)
+tick_step b r a offer h =
+    ap (λ (f : Option Found). ticks_with b offer f) (ap (λ (c : Core). c.found) h.core) ∙ ticks_are b offer
+
+-- nothing is signed for a proposal
+proposal_said : (made : List Entry) (o : Option Block) (c : Core) → statements_of (made ++ proposes o c) ≡ statements_of made
+proposal_said made None c = ap (λ (l : List Entry). statements_of l) (append-nil made)
+proposal_said made (Some block) c = statements-append made (proposes (Some block) c) ∙ append-nil (statements_of made)
+
+pub proposes_said : (b : Before) (made : List Entry) (offer : List Request)
+    → statements_of (after_rule (own_rule (Tick offer)) b made) ≡ statements_of made
+proposes_said b made offer =
+    proposal_said made (proposed (place_in b made) (view_in b made) offer) (core_in b made)
 
 -- A LETTER
 
@@ -167,64 +314,78 @@ no_letter from bytes message e none = ap (λ o. option_map (letter_of from) (opt
 pub a_letter : (from : ℕ) (bytes : List ℕ) (message : Message) (vote : VoteMessage) → message_in bytes ≡ Some message → vote_in message ≡ Some vote → letter_in from bytes ≡ Some (letter_of from vote)
 a_letter from bytes message vote e is = ap (λ o. option_map (letter_of from) (option_and_then vote_in o)) e ∙ ap (λ o. option_map (letter_of from) o) is
 
--- what a node hears
-pub hears_none : (b : Before) (r : Running) (from : ℕ) (bytes : List ℕ) → letter_in from bytes ≡ None → BeginsWith b r (FromMember from bytes) r.view
-hears_none b r from bytes e = ap (λ o. core_hears o (b.keys.accepts []) (core_of r)) e
+-- what a node hears: nothing from bytes that spell no vote
+pub hears_none : (r : Running) (accepts : Accepts) (from : ℕ) (bytes : List ℕ) → letter_in from bytes ≡ None
+    → (heard (FromMember from bytes) accepts r).view ≡ r.view
+hears_none r accepts from bytes e = ap (λ o. after_letter o accepts (place_of r) r.view) e
 
-own_letter : (from : ℕ) (o : Option VoteMessage) (accepts : Accepts) (s : Core) → from ≡ s.view.me → core_hears (option_map (letter_of from) o) accepts s ≡ s
-own_letter from None accepts s e = refl
-own_letter from (Some vote) accepts s e = rw (eq-eqb from s.view.me e)
+own_letter : (from : ℕ) (o : Option VoteMessage) (accepts : Accepts) (p : Place) (w : View) → from ≡ w.me
+    → after_letter (option_map (letter_of from) o) accepts p w ≡ w
+own_letter from None accepts p w e = refl
+own_letter from (Some vote) accepts p w e = rw (eq-eqb from w.me e) refl
 
--- in the own name nothing is heard
-pub hears_own : (b : Before) (r : Running) (from : ℕ) (bytes : List ℕ) → from ≡ r.view.me → BeginsWith b r (FromMember from bytes) r.view
-hears_own b r from bytes e = own_letter from (option_and_then vote_in (message_in bytes)) (b.keys.accepts []) (core_of r) e
+-- nor in the own name
+pub hears_own : (r : Running) (accepts : Accepts) (from : ℕ) (bytes : List ℕ) → from ≡ r.view.me
+    → (heard (FromMember from bytes) accepts r).view ≡ r.view
+hears_own r accepts from bytes e =
+    own_letter from (option_and_then vote_in (message_in bytes)) accepts (place_of r) r.view e
 
-other_letter : (letter : Letter) (accepts : Accepts) (r : Running) → (letter.from ≡ r.view.me → ⊥) → core_hears (Some letter) accepts (core_of r) ≡ core_of (with_view r (kept_after accepts (place_of r) r.view letter))
-other_letter letter accepts r other = rw (ne_eqb letter.from r.view.me other)
+other_letter : (letter : Letter) (accepts : Accepts) (p : Place) (w : View) → (letter.from ≡ w.me → ⊥)
+    → after_letter (Some letter) accepts p w ≡ kept_after accepts p w letter
+other_letter letter accepts p w other = rw (ne_eqb letter.from w.me other) refl
 
-pub hears_other : (b : Before) (r : Running) (a : Around) (from : ℕ) (bytes : List ℕ) (vote : VoteMessage) → Begins b r a → letter_in from bytes ≡ Some (letter_of from vote) → (from ≡ r.view.me → ⊥)
-    → BeginsWith b r (FromMember from bytes) (kept_after a.accepts (place_of r) r.view (letter_of from vote))
-hears_other b r a from bytes vote h e other =
-    ap (λ o. core_hears o (b.keys.accepts []) (core_of r)) e ∙ ap (λ (k : Accepts). core_hears (Some (letter_of from vote)) k (core_of r)) h.accepts ∙ other_letter (letter_of from vote) a.accepts r other
+pub hears_other : (r : Running) (accepts : Accepts) (from : ℕ) (bytes : List ℕ) (vote : VoteMessage)
+    → letter_in from bytes ≡ Some (letter_of from vote) → (from ≡ r.view.me → ⊥)
+    → (heard (FromMember from bytes) accepts r).view ≡ kept_after accepts (place_of r) r.view (letter_of from vote)
+hears_other r accepts from bytes vote e other =
+    ap (λ o. after_letter o accepts (place_of r) r.view) e
+    ∙ other_letter (letter_of from vote) accepts (place_of r) r.view other
 
 -- WHAT IS TOLD
 
--- nothing was heard
-pub quiet : (b : Before) (r : Running) (a : Around) (from : ℕ) (bytes : List ℕ) → Begins b r a → r.view.me ≡ r.id → BeginsWith b r (FromMember from bytes) r.view
-    → Makes b (begins node_ways b.keys (unlogged (state_of r)) (FromMember from bytes)) act_of.Kept r a
-quiet b r a from bytes h mine comes = begun b r r a (FromMember from bytes) act_of.Kept r.view h mine refl refl refl comes refl refl
+-- of what a view tells that was asked again, where it stands as the event leaves it
+pub asked_again : (r mid new : Running) (accepts : Accepts) (event : Event) (told : Act) → mid.id ≡ r.id
+    → mid.store ≡ r.store → mid.found ≡ r.found → (heard event accepts r).view ≡ mid.view
+    → TellsDue accepts (state_of mid) told mid new → TellsDue accepts (heard event accepts r) told r new
+asked_again r mid new accepts event told id store found e t =
+    record {
+      id = t.id ∙ id;
+      store = t.store ∙ store;
+      found = t.found ∙ found;
+      view = t.view ∙ ap (λ (w : View). after_act told w) (sym e);
+      due = t.due ∙ duty-same accepts accepts (state_of mid) (heard event accepts r) refl
+          (ap (λ (s : Store). place_after (config_of s) (held_of s).blocks) store) (sym e);
+    }
 
 -- a proposal or a Commit of another member
-pub vote_told : (b : Before) (r : Running) (left : View) (a : Around) (from : ℕ) (bytes : List ℕ) (message : Message) (vote : VoteMessage) (told : Act) (accepts : Accepts) (p : Place) → IsSound r → (from ≡ r.id → ⊥) → p ≡ place_of r
-    → told ≡ vote_answer accepts p (at_place p r.view) (letter_of from vote) → left ≡ after_vote accepts p r.view (letter_of from vote)
-    → a.accepts ≡ accepts → message_in bytes ≡ Some message → vote_in message ≡ Some vote → Begins b r a → Tells b (begins node_ways b.keys (unlogged (state_of r)) (FromMember from bytes)) told (with_view r left) a
-vote_told b r left a from bytes message vote told accepts p s other here answer after is spelt voted h =
+pub vote_told : (r : Running) (left : View) (from : ℕ) (bytes : List ℕ) (message : Message) (vote : VoteMessage)
+    (told : Act) (accepts : Accepts) (p : Place) → IsSound r → (from ≡ r.id → ⊥) → p ≡ place_of r
+    → told ≡ vote_answer accepts p (at_place p r.view) (letter_of from vote)
+    → left ≡ after_vote accepts p r.view (letter_of from vote) → message_in bytes ≡ Some message
+    → vote_in message ≡ Some vote
+    → TellsDue accepts (heard (FromMember from bytes) accepts r) told r (with_view r left)
+vote_told r left from bytes message vote told accepts p s other here answer after spelt voted =
     let letter : Letter = letter_of from vote in
     let at = at_place-at (place_of r) r.view s.at in
-    let told_here : told ≡ vote_answer accepts (place_of r) r.view letter = answer ∙ ap (λ q. vote_answer accepts q (at_place q r.view) letter) here ∙ ap (λ v. vote_answer accepts (place_of r) v letter) at in
-    let left_here : left ≡ after_act told (kept_after accepts (place_of r) r.view letter) =
-    after ∙ ap (λ q. after_vote accepts q r.view letter) here ∙ ap (λ v. after_act (vote_answer accepts (place_of r) v letter) (kept_after accepts (place_of r) v letter)) at
-    ∙ ap (λ t. after_act t (kept_after accepts (place_of r) r.view letter)) (sym told_here) in
-    let same : kept_after accepts (place_of r) r.view letter ≡ kept_after a.accepts (place_of r) r.view letter = ap (λ (k : Accepts). kept_after k (place_of r) r.view letter) (sym is) in
-    begun_told b r (with_view r left) a from bytes told (kept_after a.accepts (place_of r) r.view letter) h s.me refl refl refl
-    (hears_other b r a from bytes vote h (a_letter from bytes message vote spelt voted) (λ e. other (e ∙ s.me)))
-    (me-kept_after a.accepts (place_of r) r.view letter) (left_here ∙ ap (after_act told) same)
-    (ap act_in told_here ∙ act_in-vote_answer accepts (place_of r) r.view letter ∙ ap (λ (k : Accepts). due k (place_of r) (kept_after k (place_of r) r.view letter)) (sym is))
-
--- whatever comes
-heard : (o : Option Letter) (accepts : Accepts) (r : Running) → (came : View) × (core_hears o accepts (core_of r) ≡ core_of (with_view r came)) × (came.me ≡ r.view.me)
-heard None accepts r = (r.view, refl, refl)
-heard (Some letter) accepts r =
-    elim (cases_Bool (letter.from == r.view.me)) [
-      | inl e ↦ (r.view, rw e, refl)
-      | inr e ↦ (kept_after accepts (place_of r) r.view letter, rw e, me-kept_after accepts (place_of r) r.view letter)
-    ]
-
-pub message_begun : (b : Before) (r : Running) (a : Around) (from : ℕ) (bytes : List ℕ) → Begins b r a → r.view.me ≡ r.id
-    → (came : View) × Makes b (begins node_ways b.keys (unlogged (state_of r)) (FromMember from bytes)) act_of.Kept (with_view r came) a
-message_begun b r a from bytes h mine =
-    let came = heard (letter_in from bytes) (b.keys.accepts []) r in
-    (came.0, begun b r (with_view r came.0) a (FromMember from bytes) act_of.Kept came.0 h mine refl refl refl came.1 came.2 refl)
+    let kept : View = kept_after accepts (place_of r) r.view letter in
+    let told_here : told ≡ vote_answer accepts (place_of r) r.view letter =
+    answer ∙ ap (λ q. vote_answer accepts q (at_place q r.view) letter) here
+    ∙ ap (λ v. vote_answer accepts (place_of r) v letter) at in
+    let left_here : left ≡ after_act told kept =
+    after ∙ ap (λ q. after_vote accepts q r.view letter) here
+    ∙ ap (λ v. after_act (vote_answer accepts (place_of r) v letter) (kept_after accepts (place_of r) v letter)) at
+    ∙ ap (λ t. after_act t kept) (sym told_here) in
+    let came = hears_other r accepts from bytes vote (a_letter from bytes message vote spelt voted)
+    (λ e. other (e ∙ s.me)) in
+    record {
+      id = refl;
+      store = refl;
+      found = refl;
+      view = left_here ∙ ap (λ (w : View). after_act told w) (sym came);
+      due = ap duty_in told_here ∙ duty_in-vote_answer accepts (state_of r) letter
+          ∙ duty-same accepts accepts (record (state_of r) { view = kept }) (heard (FromMember from bytes) accepts r) refl
+              refl (sym came);
+    }
 
 -- A PREPARE of another member
 
@@ -244,22 +405,35 @@ module _ (r : Running) (left : View) (from : ℕ) (message : Prepare) (told : Ac
       let moved = ap (λ v. after_act (prepare_answer (place_of r) v letter) (kept_after accepts_nothing (place_of r) v letter)) (at_place-at (place_of r) r.view s.at) in
       subst (IsViewOf r) (sym (after_here ∙ moved)) (act_view r (prepare_answer (place_of r) r.view letter) kept (kept_view_of r accepts_nothing r.view letter (same_view r s)))
 
-  module _ (b : Before) (a : Around) (bytes : List ℕ) (spelt : message_in bytes ≡ Some (wire.Prepare message)) (h : Begins b r a) where
-    comes_prepare : BeginsWith b r (FromMember from bytes) (kept_after a.accepts (place_of r) r.view (letter_of from (vote_of.Prepare message)))
-    comes_prepare = hears_other b r a from bytes (vote_of.Prepare message) h (a_letter from bytes (wire.Prepare message) (vote_of.Prepare message) spelt refl) (λ e. other (e ∙ s.me))
+  module _ (accepts : Accepts) (bytes : List ℕ) (spelt : message_in bytes ≡ Some (wire.Prepare message)) where
+    abbrev kept : View
+    kept = kept_after accepts (place_of r) r.view (letter_of from (vote_of.Prepare message))
 
-    pub prepare_told : (digest : List ℕ) → told ≡ act_of.Prepare digest → Tells b (begins node_ways b.keys (unlogged (state_of r)) (FromMember from bytes)) (act_of.Prepare digest) (with_view r left) a
+    prepare_came : (heard (FromMember from bytes) accepts r).view ≡ kept
+    prepare_came =
+        hears_other r accepts from bytes (vote_of.Prepare message)
+        (a_letter from bytes (wire.Prepare message) (vote_of.Prepare message) spelt refl) (λ e. other (e ∙ s.me))
+
+    pub prepare_told : (digest : List ℕ) → told ≡ act_of.Prepare digest
+        → TellsDue accepts (heard (FromMember from bytes) accepts r) (act_of.Prepare digest) r (with_view r left)
     prepare_told digest e =
-        begun_told b r (with_view r left) a from bytes (act_of.Prepare digest) (kept_after a.accepts (place_of r) r.view (letter_of from (vote_of.Prepare message))) h s.me refl refl refl comes_prepare
-        (me-kept_after a.accepts (place_of r) r.view (letter_of from (vote_of.Prepare message)))
-        (left-prepared a.accepts (place_of r) r.view from message told left s.at answer_here after_here digest e)
-        (due-prepared a.accepts (place_of r) r.view from message told left s.at answer_here after_here digest e)
+        record {
+          id = refl;
+          store = refl;
+          found = refl;
+          view = left-prepared accepts (place_of r) r.view from message told left s.at answer_here after_here digest e
+              ∙ ap (λ (w : View). after_act (act_of.Prepare digest) w) (sym prepare_came);
+          due = due-prepared accepts (place_of r) r.view from message told left s.at answer_here after_here digest e
+              (as_found r.found)
+              ∙ duty-same accepts accepts (record (state_of r) { view = kept })
+                  (heard (FromMember from bytes) accepts r) refl refl (sym prepare_came);
+        }
 
-    pub prepare_kept : ((digest : List ℕ) → told ≡ act_of.Prepare digest → ⊥) → Makes b (begins node_ways b.keys (unlogged (state_of r)) (FromMember from bytes)) act_of.Kept (with_view r left) a
+    pub prepare_kept : ((digest : List ℕ) → told ≡ act_of.Prepare digest → ⊥)
+        → (heard (FromMember from bytes) accepts r).view ≡ left
     prepare_kept none =
-        begun b r (with_view r left) a (FromMember from bytes) act_of.Kept (kept_after a.accepts (place_of r) r.view (letter_of from (vote_of.Prepare message))) h s.me refl refl refl comes_prepare
-        (me-kept_after a.accepts (place_of r) r.view (letter_of from (vote_of.Prepare message)))
-        (left-kept a.accepts (place_of r) r.view from message told left s.at answer_here after_here none)
+        prepare_came
+        ∙ sym (left-kept accepts (place_of r) r.view from message told left s.at answer_here after_here none)
 
 -- want of memory is no limit
 pub no_memory : (fault : NodeFault) → fault ≡ node_of.NoMemory → TouchesNoDisk fault
@@ -289,46 +463,46 @@ propose_view result r p offer left s here ok err =
     (act_view r (propose_answer (place_of r) r.view offer) r.view (same_view r s)))
     (λ e. subst (IsViewOf r) (sym (e ∙ ap (λ q. at_place q r.view) here ∙ at)) (same_view r s))
 
--- with the proposal that is due
-abbrev pub proposes : Before → Step → List Request → Step
-proposes b m offer = propose_round node_ways (proposed (place_in m) (view_in m) offer) m
-
-extends_proposal : (m : Step) (o : Option Block) → Extends m (propose_round node_ways o m)
-extends_proposal m None = extends_same m
-extends_proposal m (Some block) = record { deeds = front_more m.state.deeds _; signed = front_of m.signed; rests = refl }
-
-pub extends_proposes : (b : Before) (m : Step) (offer : List Request) → Extends m (proposes b m offer)
-extends_proposes b m offer = extends_proposal m (proposed (place_in m) (view_in m) offer)
-
-module _ (b : Before) (m : Step) (r : Running) (a : Around) (h : Makes b m act_of.Kept r a) (s : IsSound r) (offer : List Request) (left : View) (told : Act) (p : Place) (here : p ≡ place_of r)
+module _ (b : Before) (made : List Entry) (r : Running) (a : Around) (h : Makes b made act_of.Kept r a) (s : IsSound r)
+    (offer : List Request) (left : View) (told : Act) (p : Place) (here : p ≡ place_of r)
     (answer : told ≡ propose_answer p (at_place p r.view) offer) (after : left ≡ after_propose p r.view offer) where
   answers : told ≡ propose_answer (place_of r) r.view offer
-  answers = answer ∙ ap (λ q. propose_answer q (at_place q r.view) offer) here ∙ ap (λ v. propose_answer (place_of r) v offer) (at_place-at (place_of r) r.view s.at)
+  answers =
+      answer ∙ ap (λ q. propose_answer q (at_place q r.view) offer) here
+      ∙ ap (λ v. propose_answer (place_of r) v offer) (at_place-at (place_of r) r.view s.at)
 
   leaves : left ≡ after_act told r.view
   leaves =
-      after ∙ ap (λ q. after_propose q r.view offer) here ∙ ap (λ v. after_act (propose_answer (place_of r) v offer) v) (at_place-at (place_of r) r.view s.at)
+      after ∙ ap (λ q. after_propose q r.view offer) here
+      ∙ ap (λ v. after_act (propose_answer (place_of r) v offer) v) (at_place-at (place_of r) r.view s.at)
       ∙ ap (λ t. after_act t r.view) (sym answers)
 
-  offered : proposed (place_of r) r.view offer ≡ proposed (place_in m) (view_in m) offer
-  offered = ap (λ q. proposed q r.view offer) h.place ∙ ap (λ v. proposed (place_in m) v offer) h.view
+  offered : proposed (place_of r) r.view offer ≡ proposed (place_in b made) (view_in b made) offer
+  offered = ap (λ q. proposed q r.view offer) h.place ∙ ap (λ v. proposed (place_in b made) v offer) h.view
 
   module _ (block : Block) (is : told ≡ act_of.Accept block) where
-    pub proposed_makes : Makes b m (act_of.Accept block) (with_view r left) a
-    proposed_makes = Makes-view b m act_of.Kept (act_of.Accept block) r (with_view r left) a h refl refl refl (leaves ∙ ap (λ t. after_act t r.view) is ∙ ap (λ v. after_act (act_of.Accept block) v) h.view)
+    pub proposed_makes : Makes b made (act_of.Accept block) (with_view r left) a
+    proposed_makes =
+        makes_view b made act_of.Kept (act_of.Accept block) r (with_view r left) a h refl refl refl
+        (leaves ∙ ap (λ t. after_act t r.view) is ∙ ap (λ v. after_act (act_of.Accept block) v) h.view)
 
-    pub proposed_round : proposes b m offer ≡ makes_accepted node_ways block (preprepare_message (place_in m) (view_in m) block ∷ []) m
-    proposed_round = ap (λ o. propose_round node_ways o m) (sym offered ∙ offer_taken (proposed (place_of r) r.view offer) _ _ block (sym answers ∙ is))
+    pub proposed_as : after_rule (λ signed c. proposes (Some block) c) b made ≡ after_rule (own_rule (Tick offer)) b made
+    proposed_as =
+        sym (ap (λ o. made ++ proposes o (core_in b made))
+        (sym offered ∙ offer_taken (proposed (place_of r) r.view offer) _ _ block (sym answers ∙ is)))
 
   module _ (none : (x : Block) → told ≡ act_of.Accept x → ⊥) where
-    kept_offer : (proposed (place_of r) r.view offer ≡ None) × (after_act (propose_answer (place_of r) r.view offer) r.view ≡ r.view)
+    kept_offer : (proposed (place_of r) r.view offer ≡ None)
+        × (after_act (propose_answer (place_of r) r.view offer) r.view ≡ r.view)
     kept_offer = offer_left (proposed (place_of r) r.view offer) _ _ r.view (λ x e. none x (answers ∙ e))
 
-    pub unproposed_makes : Makes b (proposes b m offer) act_of.Kept (with_view r left) a
+    pub unproposed_makes : Makes b (after_rule (own_rule (Tick offer)) b made) act_of.Kept (with_view r left) a
     unproposed_makes =
-        subst (λ (n : Step). Makes b n act_of.Kept (with_view r left) a) (sym (ap (λ o. propose_round node_ways o m) (sym offered ∙ kept_offer.0)))
-        (Makes-view b m act_of.Kept act_of.Kept r (with_view r left) a h refl refl refl (leaves ∙ ap (λ t. after_act t r.view) answers ∙ kept_offer.1 ∙ h.view))
+        let same = ap (λ o. made ++ proposes o (core_in b made)) (sym offered ∙ kept_offer.0) ∙ append-nil made in
+        makes_as b made (after_rule (own_rule (Tick offer)) b made) act_of.Kept (with_view r left) a (sym same)
+        (makes_view b made act_of.Kept act_of.Kept r (with_view r left) a h refl refl refl
+        (leaves ∙ ap (λ t. after_act t r.view) answers ∙ kept_offer.1 ∙ h.view))
 
 -- the proposal goes before the Prepare
-abbrev pub proposal_first : Block → Place → View → List Message
-proposal_first block p w = preprepare_message p w block ∷ []
+abbrev pub proposal_texts : Block → Place → View → List Message
+proposal_texts block p w = preprepare_message p w block ∷ prepare_message p w block ∷ []

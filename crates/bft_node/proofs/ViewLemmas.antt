@@ -1,5 +1,6 @@
 -- What the calls on a view answer and leave, where the view is at the place.
 use Rattle.std.proofs.Common.{◌≡◌, ℕ, ◌≤◌, Bool, true, false, ◌&&◌, ◌==◌, not, List, [], ◌∷◌, length, Option, Some, None, refl, sym, ap, subst, ◌∙◌, inl, inr, arith, is_none}
+use Rattle.std.specs.Prelude.{if◌then◌else◌}
 use Rattle.std.specs.Str.{bytes_eq}
 use Rattle.std.proofs.lemmas.Bool.{cases_Bool, and_parts, and_from, and_right, eqb-true, eq-eqb}
 use Rattle.std.proofs.lemmas.Slice.Eq.{bytes_eq-Decides}
@@ -15,7 +16,10 @@ use Rattle.view_model.specs.declared.act.Act.{Act}
 use Rattle.view_model.specs.declared.act.Act.TheVariants as act_of
 use Rattle.view_model.specs.Acts.{View, accept_act, acceptance_due, deliver_act, delivery_due, digest_if, due, first_of, is_inside_view, is_voting, preparation_due, prepare_act}
 use Rattle.view_model.specs.Answers.{accepts_nothing, act_or, after_act, after_prepare, at_place, due_answer, fresh, is_new, is_same_config, kept_after, kept_or, prepare_answer, reason_or, unplaced, vote_answer}
-use Rattle.bft_node.specs.Making.{act_in}
+use Rattle.node_model.specs.Cores.{Core, Found}
+use Rattle.node_model.specs.Steps as duty_of
+use Rattle.node_model.specs.Steps.{accept_duty, deliver_duty, duty, first_some, prepare_duty}
+use Rattle.bft_node.specs.Making.{duty_in}
 use Rattle.view_core.specs.Places.{StandsAt}
 
 -- AT THE PLACE
@@ -75,70 +79,98 @@ me-kept_after accepts place w letter =
 
 -- WHAT IS TOLD IS WHAT IS DUE
 
-act_in-first : (a : Option Block) (p : Option (List ℕ)) (d : Option (Block × Cert)) (other : Act) → act_in other ≡ None → act_in (act_or (first_of (accept_act a) (first_of (prepare_act p) (deliver_act d))) other) ≡ first_of (accept_act a) (first_of (prepare_act p) (deliver_act d))
-act_in-first (Some b) p d other e = refl
-act_in-first None (Some h) d other e = refl
-act_in-first None None (Some c) other e = refl
-act_in-first None None None other e = e
+duty_in-first : (a : Option Block) (p : Option (List ℕ)) (d : Option (Block × Cert)) (other : Act)
+    → duty_in other ≡ None
+    → duty_in (act_or (first_of (accept_act a) (first_of (prepare_act p) (deliver_act d))) other)
+    ≡ first_some (accept_duty a ∷ prepare_duty p ∷ deliver_duty d ∷ [])
+duty_in-first (Some b) p d other e = refl
+duty_in-first None (Some h) d other e = refl
+duty_in-first None None (Some c) other e = refl
+duty_in-first None None None other e = e
 
-pub act_in-due : (accepts : Accepts) (place : Place) (w : View) (other : Act) → act_in other ≡ None → act_in (act_or (due accepts place w) other) ≡ due accepts place w
-act_in-due accepts place w other e = act_in-first (acceptance_due accepts place w) (preparation_due place w) (delivery_due place w) other e
+duty_in-due : (accepts : Accepts) (c : Core) (other : Act) → duty_in other ≡ None
+    → duty_in (act_or (due accepts c.place c.view) other) ≡ duty accepts c
+duty_in-due accepts c other e =
+    duty_in-first (acceptance_due accepts c.place c.view) (preparation_due c.place c.view)
+    (delivery_due c.place c.view) other e
 
-act_in-reason_or : (o : Option Reason) (last : Reason) → act_in (reason_or o last) ≡ None
-act_in-reason_or None last = refl
-act_in-reason_or (Some r) last = refl
+duty_in-reason_or : (o : Option Reason) (last : Reason) → duty_in (reason_or o last) ≡ None
+duty_in-reason_or None last = refl
+duty_in-reason_or (Some r) last = refl
 
-act_in-kept_or : (b : Bool) (o : Option Reason) (last : Reason) → act_in (kept_or b o last) ≡ None
-act_in-kept_or true o last = refl
-act_in-kept_or false o last = act_in-reason_or o last
+duty_in-kept_or : (b : Bool) (o : Option Reason) (last : Reason) → duty_in (kept_or b o last) ≡ None
+duty_in-kept_or true o last = refl
+duty_in-kept_or false o last = duty_in-reason_or o last
 
-pub act_in-due_answer : (accepts : Accepts) (place : Place) (w : View) → act_in (due_answer accepts place w) ≡ due accepts place w
-act_in-due_answer accepts place w = act_in-due accepts place w _ (act_in-reason_or _ _)
+pub duty_in-due_answer : (accepts : Accepts) (c : Core) → duty_in (due_answer accepts c.place c.view) ≡ duty accepts c
+duty_in-due_answer accepts c = duty_in-due accepts c _ (duty_in-reason_or _ _)
 
-pub act_in-vote_answer : (accepts : Accepts) (place : Place) (w : View) (letter : Letter) → act_in (vote_answer accepts place w letter) ≡ due accepts place (kept_after accepts place w letter)
-act_in-vote_answer accepts place w letter = act_in-due accepts place (kept_after accepts place w letter) _ (act_in-kept_or _ _ _)
+pub duty_in-vote_answer : (accepts : Accepts) (c : Core) (letter : Letter)
+    → duty_in (vote_answer accepts c.place c.view letter)
+    ≡ duty accepts (record c { view = kept_after accepts c.place c.view letter })
+duty_in-vote_answer accepts c letter =
+    duty_in-due accepts (record c { view = kept_after accepts c.place c.view letter }) _ (duty_in-kept_or _ _ _)
 
 -- WHAT IS DUE, BY WHAT IS TOLD
 
-first_accept : (a : Option Block) (p : Option (List ℕ)) (d : Option (Block × Cert)) (b : Block) → Some (act_of.Accept b) ≡ first_of (accept_act a) (first_of (prepare_act p) (deliver_act d)) → a ≡ Some b
+first_accept : (a : Option Block) (p : Option (List ℕ)) (d : Option (Block × Cert)) (b : Block)
+    → Some (duty_of.Accept b) ≡ first_some (accept_duty a ∷ prepare_duty p ∷ deliver_duty d ∷ []) → a ≡ Some b
 first_accept (Some c) p d b e = cc
 first_accept None (Some h) d b e = cc
 first_accept None None (Some c) b e = cc
 first_accept None None None b e = cc
 
-pub acceptance_due-told : (accepts : Accepts) (place : Place) (w : View) (b : Block) → act_in (act_of.Accept b) ≡ due accepts place w → acceptance_due accepts place w ≡ Some b
-acceptance_due-told accepts place w b e = first_accept (acceptance_due accepts place w) (preparation_due place w) (delivery_due place w) b e
-
-first_prepare : (a : Option Block) (p : Option (List ℕ)) (d : Option (Block × Cert)) (h : List ℕ) → Some (act_of.Prepare h) ≡ first_of (accept_act a) (first_of (prepare_act p) (deliver_act d)) → (a ≡ None) × (p ≡ Some h)
+first_prepare : (a : Option Block) (p : Option (List ℕ)) (d : Option (Block × Cert)) (h : List ℕ)
+    → Some (duty_of.Prepare h) ≡ first_some (accept_duty a ∷ prepare_duty p ∷ deliver_duty d ∷ []) → p ≡ Some h
 first_prepare (Some c) p d h e = cc
-first_prepare None (Some g) d h e = (refl, cc)
+first_prepare None (Some g) d h e = cc
 first_prepare None None (Some c) h e = cc
 first_prepare None None None h e = cc
 
-pub preparation_due-told : (accepts : Accepts) (place : Place) (w : View) (d : List ℕ) → act_in (act_of.Prepare d) ≡ due accepts place w → (acceptance_due accepts place w ≡ None) × (preparation_due place w ≡ Some d)
-preparation_due-told accepts place w d e = first_prepare (acceptance_due accepts place w) (preparation_due place w) (delivery_due place w) d e
+if_some : {A : Type 0} (b : Bool) (o : Option A) (x : A) → (if b then o else None) ≡ Some x → b ≡ true
+if_some true o x e = refl
+if_some false o x e = cc
 
--- AFTER AN ACCEPTANCE nothing is to be accepted, after a preparation no vote is due
+none_of : {A : Type 0} (o : Option A) → is_none o ≡ true → o ≡ None
+none_of None e = refl
+none_of (Some x) e = cc
 
-acceptance_if : (accepts : Accepts) (place : Place) (w : View) → is_none w.accepted ≡ false → acceptance_due accepts place w ≡ None
+unset : (b : Bool) → not b ≡ true → b ≡ false
+unset false e = refl
+unset true e = cc
+
+-- nothing was accepted where an acceptance is due, and nothing prepared where a preparation is
+pub told_unaccepted : (accepts : Accepts) (c : Core) (b : Block) → duty_in (act_of.Accept b) ≡ duty accepts c
+    → c.view.accepted ≡ None
+told_unaccepted accepts c b e =
+    let some = first_accept (acceptance_due accepts c.place c.view) (preparation_due c.place c.view)
+    (delivery_due c.place c.view) b e in
+    none_of c.view.accepted (and_parts _ _ (if_some _ _ b some)).1
+
+pub told_unprepared : (accepts : Accepts) (c : Core) (d : List ℕ) → duty_in (act_of.Prepare d) ≡ duty accepts c
+    → c.view.is_prepared ≡ false
+told_unprepared accepts c d e =
+    let some = first_prepare (acceptance_due accepts c.place c.view) (preparation_due c.place c.view)
+    (delivery_due c.place c.view) d e in
+    unset c.view.is_prepared (and_parts _ _ (if_some _ _ d some)).1
+
+digest_if-accepted : (place : Place) (w : View) (o : Option Block) (d : List ℕ) → digest_if place w o ≡ Some d
+    → (b : Block) × (o ≡ Some b)
+digest_if-accepted place w (Some b) d e = (b, refl)
+digest_if-accepted place w None d e = cc
+
+acceptance_if : (accepts : Accepts) (place : Place) (w : View) → is_none w.accepted ≡ false
+    → acceptance_due accepts place w ≡ None
 acceptance_if accepts place w e = rw (and_right (is_voting place w && is_inside_view w) (is_none w.accepted) e)
 
 none-accepted : (o : Option Block) (b : Block) → o ≡ Some b → is_none o ≡ false
 none-accepted (Some c) b e = refl
 none-accepted None b e = cc
 
--- what has been accepted
-pub acceptance_due-accepted : (accepts : Accepts) (place : Place) (w : View) (b : Block) → w.accepted ≡ Some b → acceptance_due accepts place w ≡ None
+-- nothing is to be accepted where something was
+pub acceptance_due-accepted : (accepts : Accepts) (place : Place) (w : View) (b : Block) → w.accepted ≡ Some b
+    → acceptance_due accepts place w ≡ None
 acceptance_due-accepted accepts place w b e = acceptance_if accepts place w (none-accepted w.accepted b e)
-
-pub preparation_due-prepared : (place : Place) (w : View) → w.is_prepared ≡ true → preparation_due place w ≡ None
-preparation_due-prepared place w e =
-    let off : not w.is_prepared ≡ false = rw e in
-    rw (and_right (is_voting place w && is_inside_view w) (not w.is_prepared) off)
-
-digest_if-accepted : (place : Place) (w : View) (o : Option Block) (d : List ℕ) → digest_if place w o ≡ Some d → (b : Block) × (o ≡ Some b)
-digest_if-accepted place w (Some b) d e = (b, refl)
-digest_if-accepted place w None d e = cc
 
 -- what is prepared has been accepted
 pub preparation_due-accepted : (place : Place) (w : View) (d : List ℕ) → preparation_due place w ≡ Some d → (b : Block) × (w.accepted ≡ Some b)
@@ -147,15 +179,6 @@ preparation_due-accepted place w d e =
       | inl t ↦ digest_if-accepted place w w.accepted d (rw t at e)
       | inr f ↦ (let no : None ≡ Some d = rw f at e in cc)
     ]
-
--- neither call touches what was accepted
-pub accepted-kept_after : (accepts : Accepts) (place : Place) (w : View) (letter : Letter) → (kept_after accepts place w letter).accepted ≡ w.accepted
-accepted-kept_after accepts place w letter =
-    elim (cases_Bool (is_new accepts place w letter)) [ inl e ↦ rw e | inr e ↦ rw e ]
-
-pub is_prepared-kept_after : (accepts : Accepts) (place : Place) (w : View) (letter : Letter) → (kept_after accepts place w letter).is_prepared ≡ w.is_prepared
-is_prepared-kept_after accepts place w letter =
-    elim (cases_Bool (is_new accepts place w letter)) [ inl e ↦ rw e | inr e ↦ rw e ]
 
 -- A NODE THAT STANDS NOWHERE YET
 
@@ -182,7 +205,8 @@ prepare_not_told None true o r w h = refl
 prepare_not_told None false None r w h = refl
 prepare_not_told None false (Some s) r w h = refl
 
-first_prepared : (a : Option Block) (p : Option (List ℕ)) (d : Option (Block × Cert)) (digest : List ℕ) → a ≡ None → p ≡ Some digest → Some (act_of.Prepare digest) ≡ first_of (accept_act a) (first_of (prepare_act p) (deliver_act d))
+first_prepared : (a : Option Block) (p : Option (List ℕ)) (d : Option (Block × Cert)) (digest : List ℕ) → a ≡ None
+    → p ≡ Some digest → Some (duty_of.Prepare digest) ≡ first_some (accept_duty a ∷ prepare_duty p ∷ deliver_duty d ∷ [])
 first_prepared a p d digest e f = rw (e, f)
 
 -- what a Prepare is answered by, and what it leaves, at the place
@@ -199,8 +223,9 @@ module _ (accepts : Accepts) (place : Place) (w : View) (from : ℕ) (message : 
   pub left-prepared : (d : List ℕ) → act ≡ act_of.Prepare d → left ≡ after_act (act_of.Prepare d) kept_view
   left-prepared d e = left_here ∙ ap (λ a. after_act a kept_view) e
 
-  pub due-prepared : (d : List ℕ) → act ≡ act_of.Prepare d → Some (act_of.Prepare d) ≡ due accepts place kept_view
-  due-prepared d e =
+  pub due-prepared : (d : List ℕ) → act ≡ act_of.Prepare d → (found : Option Found)
+      → Some (duty_of.Prepare d) ≡ duty accepts (record { place = place; view = kept_view; found = found })
+  due-prepared d e found =
       let p = prepare_told (preparation_due place kept_view) _ _ _ d (sym answer_here ∙ e) in
       let accepted = preparation_due-accepted place kept_view d p in
       first_prepared (acceptance_due accepts place kept_view) (preparation_due place kept_view) (delivery_due place kept_view) d (acceptance_due-accepted accepts place kept_view accepted.0 accepted.1) p

@@ -8,7 +8,8 @@ use Rattle.view_model.specs.Pending.{still_at}
 use Rattle.view_model.specs.declared.act.Act.{Act}
 use Rattle.view_model.specs.declared.act.Act.TheVariants as act_of
 use Rattle.node_model.specs.Cores.{Core, Found, after_entries}
-use Rattle.node_model.specs.Entries.{Entry, Event, statements_of}
+use Rattle.node_model.specs.Entries.{Entry, statements_of}
+use Rattle.node_model.specs.declared.event.Event.{Event}
 use Rattle.node_model.specs.Laws.{IsPlaced}
 use Rattle.node_model.specs.Steps.{
   Duty,

@@ -166,7 +166,7 @@ pub record OpensMade (accepts : Acceptance) (c : Config) (made : List Entry) (he
   pub cut : ℕ
   pub some : cut ≤ length made
   pub opens : Opens accepts c image (with_deeds (deeds_of (take cut made)) held)
-  pub signed : signed ≡ statements_of (take cut made)
+  pub signatures : signed ≡ statements_of (take cut made)
 
 -- Every crash of what is left opens so, for every judge who accepts at least this.
 abbrev pub LeavesMade : Before → List Entry → List (List ℕ) → Acceptance → Bool → List State → Type 0

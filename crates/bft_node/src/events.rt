@@ -8,7 +8,7 @@ ghost use Rattle.bft_wire.specs.Reading.{message_in};
 ghost use Rattle.bft_wire.specs.declared.message.Message.TheVariants as message_of;
 ghost use Rattle.view_model.specs.declared.act.Act.TheVariants as act_of;
 ghost use Rattle.node_model.specs.Cores.{after_event};
-ghost use Rattle.node_model.specs.Entries.{FromMember, Tick};
+ghost use Rattle.node_model.specs.declared.event.Event.TheVariants.{FromMember, Tick};
 ghost use Rattle.node_model.specs.Steps.{own_rule, proposes};
 ghost use Rattle.view_core.specs.Fits.{FitsAct};
 ghost use Rattle.bft_node.specs.Calls.{AddsRule, MakesStep, Quiet, Taken, TellsDue, stage};

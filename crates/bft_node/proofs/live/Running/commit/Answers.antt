@@ -1,11 +1,10 @@
-use Rattle.std.proofs.Common.{◌≡◌, ◌++◌, ap, map, refl, subst, ◌∙◌}
+use Rattle.std.proofs.Common.{◌≡◌, [], ◌∷◌, ◌++◌, ap, map, refl, subst, ◌∙◌}
 use Rattle.ord_types.specs.declared.values.Place.{Place}
 use Rattle.bft_wire.specs.declared.message.Message.TheVariants as wire
 use Rattle.view_model.specs.Answers.{after_vote, at_place, vote_answer}
 use Rattle.view_model.specs.Letters.{Commit}
-use Rattle.node_model.specs.Steps.{to_all}
 use Rattle.bft_node.specs.Commits.{own_letter}
-use Rattle.bft_node.specs.Making.{sent_of, text_of}
+use Rattle.bft_node.specs.Making.{sent_of, sent_to_others}
 use Rattle.bft_node.specs.Running.{place_of}
 use Rattle.bft_node.proofs.ActLemmas.{placed_sound, voted_sound}
 use Rattle.bft_node.proofs.live.Running.commit.Goals as goal
@@ -51,7 +50,8 @@ returns-clause-signs g c =
           after = subst (λ (x : Commit). c.on_commit.new.self ≡ after_vote accepts (place_of r) r.view (own_letter r.id x)) is
               (subst (λ (p : Place). c.on_commit.new.self ≡ after_vote accepts p r.view (own_letter r.id commit)) c.place.ensures c.in_ok-told.ensures.after);
         };
-        sends = c.in_ok-send.ensures.sent ∙ ap (λ (x : Commit). map sent_of c.args.out.now.sends ++ map text_of (to_all (place_of r).config.members r.id (wire.Commit x))) (c.in_ok-copy.ensures ∙ is);
+        sends = c.in_ok-send.ensures.sent ∙ ap (λ (x : Commit). map sent_of c.args.out.now.sends ++ sent_to_others r (wire.Commit x ∷ []))
+            (c.in_ok-copy.ensures ∙ is);
         facts = c.send.ensures.facts;
         done = c.send.ensures.done;
       };

@@ -1,7 +1,8 @@
 use Rattle.std.proofs.Common.{IsTrue, ◌∷◌, ◌++◌, [], ap, refl, subst, sym, ◌∙◌}
 use Rattle.std.proofs.lemmas.List.{append-nil}
 use Rattle.gate_log.specs.Runs.{Went}
-use Rattle.node_model.specs.Deeds.{Deed, acceptance}
+use Rattle.node_model.specs.Entries.{Deed}
+use Rattle.node_model.specs.Steps.{acceptance}
 use Rattle.safety_model.specs.declared.fact.Fact.{Fact}
 use Rattle.bft_node.specs.Crashes.{Within}
 use Rattle.bft_node.specs.Held.{Held, with_deed}

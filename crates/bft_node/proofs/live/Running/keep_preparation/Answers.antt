@@ -1,7 +1,8 @@
 use Rattle.std.proofs.Common.{IsTrue, ◌∷◌, ◌++◌, [], ap, refl, subst, sym, ◌∙◌}
 use Rattle.std.proofs.lemmas.List.{append-nil}
 use Rattle.gate_log.specs.Runs.{Went}
-use Rattle.node_model.specs.Deeds.{Deed, fact_of, preparation}
+use Rattle.node_model.specs.Entries.{Deed, fact_of}
+use Rattle.node_model.specs.Steps.{preparation}
 use Rattle.bft_node.specs.Crashes.{Within}
 use Rattle.bft_node.specs.Held.{Held, with_deed}
 use Rattle.bft_node.specs.NodeFaults.{write_limit}

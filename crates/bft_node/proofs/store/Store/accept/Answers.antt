@@ -1,5 +1,5 @@
 use Rattle.std.proofs.Common.{refl}
-use Rattle.node_model.specs.Deeds.{Accepts}
+use Rattle.node_model.specs.Entries.{Accepts}
 use Rattle.bft_node.proofs.store.Store.accept.Goals as goal
 
 pub returns-clause-added : goal.returns-clause-added

@@ -1,5 +1,5 @@
 use Rattle.std.proofs.Common.{refl}
-use Rattle.node_model.specs.Deeds.{Prepares}
+use Rattle.node_model.specs.Entries.{Prepares}
 use Rattle.bft_node.proofs.store.Store.prepare.Goals as goal
 
 pub returns-clause-added : goal.returns-clause-added
