@@ -174,7 +174,7 @@ module _ (c : Config) (me : ℕ) (held : Held) (core : Core) (stands : Stands c 
 
   stands_prepared : (i : ℕ) (d : List ℕ) → option_map block_hash core.view.accepted ≡ Some d
       → Stands c me (with_deed (Prepares i e core.view.view s d) held)
-        (after_deed (Prepares i e core.view.view s d) core)
+      (after_deed (Prepares i e core.view.view s d) core)
   stands_prepared i d h =
       let v = core.view.view in
       let has = found_accepted me stood e s v rs d stands.backed (shown_here d h) in

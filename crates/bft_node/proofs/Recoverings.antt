@@ -64,6 +64,7 @@ use Rattle.bft_node.specs.Recovering.{
   Keeps,
   KeepsFront,
   KeepsSigned,
+  OpeningsKeep,
 }
 use Rattle.bft_node.specs.NodeOpenings.{IsFoundAgain, files_at}
 use Rattle.bft_node.specs.Returning.{opened}
@@ -98,6 +99,17 @@ holds_on accepts judge r one two holds keeps log ledger =
       chain = chain_stays accepts judge (config_of r.store) (chain_of r) keeps holds.chain;
       stands = holds.stands;
       kept = store_stays r.store one two holds.kept log ledger;
+    }
+
+pub openings_keep : OpeningsKeep
+openings_keep accepts c me chain core before state all stays image crash =
+    let found = stays.crash image crash in
+    let keeps = all found.was found.left in
+    record {
+      ledger = found.ledger ∙ keeps.ledger;
+      records = keeps.records;
+      log = found.log ∙ keeps.log;
+      stands = keeps.stands;
     }
 
 -- A FRONT OF A STEP'S ENTRIES

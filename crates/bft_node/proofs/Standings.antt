@@ -426,8 +426,12 @@ module _ (rs : List WalRecord) (e v s number : ℕ) (carried : Option Vote) wher
       (λ a at. omega (arith, lt, newest_has view_accepted (λ (b : Acceptance). view_accepted b ≤ view) xs a backed.accepted at)) in
       let vote : voted_in v (newest view_voted votes) ≡ false =
       vote_below v (newest view_voted votes)
-      (λ a at. omega (arith, lt, (newest_has view_voted
-      (λ (b : Vote). (b.view ≤ view) × (is_accepted xs b ≡ true)) votes a backed.prepared at).0)) in
+      (λ a at. omega (
+        arith,
+        lt,
+        (newest_has view_voted
+            (λ (b : Vote). (b.view ≤ view) × (is_accepted xs b ≡ true)) votes a backed.prepared at).0,
+      )) in
       ap (view_at me place) (entering e s rs v number carried)
       ∙ same_parts me place (max (viewed e rs) v) v (lefts e rs) (lefts e rs) _ None _ false above refl
       (ap (λ n. accepted_in n (newest_votes 32 None xs) (block_of (newest_below None xs))) above

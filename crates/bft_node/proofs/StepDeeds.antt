@@ -198,10 +198,13 @@ deliver_does keys signed c (Some b) d is =
 told_does : (accepts : Acceptance) (keys : Keys) (signed : List (List ℕ)) (c : Core)
     → Does keys signed c (duty accepts c)
 told_does accepts keys signed c =
-    first_does keys signed c (duties accepts c)
-    (accept_does keys signed c (acceptance_due accepts c.place c.view),
-    (prepare_does keys signed c (preparation_due c.place c.view) refl,
-    (deliver_does keys signed c (delivery_due c.place c.view), tt)))
+    first_does keys signed c (duties accepts c) (
+      accept_does keys signed c (acceptance_due accepts c.place c.view),
+      (
+        prepare_does keys signed c (preparation_due c.place c.view) refl,
+        (deliver_does keys signed c (delivery_due c.place c.view), tt),
+      ),
+    )
 
 -- THE PARTS OF A STEP
 
@@ -265,16 +268,19 @@ step_has keys c event =
 
 deed_alike : (deed : Deed) (c d : Core) → after_opening c ≡ after_opening d → IsDeedOf c deed → IsDeedOf d deed
 deed_alike (Accepts i e v s b) c d is h = h ∙ ap (λ (k : Core). acceptance k.place k.view b) is
-deed_alike (Prepares i e v s digest) c d is h =
-    (h.0 ∙ ap (λ (k : Core). preparation k.place k.view digest) is,
-    ap (λ (k : Core). option_map block_hash k.view.accepted) (sym is) ∙ h.1)
+deed_alike (Prepares i e v s digest) c d is h = (
+  h.0 ∙ ap (λ (k : Core). preparation k.place k.view digest) is,
+  ap (λ (k : Core). option_map block_hash k.view.accepted) (sym is) ∙ h.1,
+)
 deed_alike (Delivers i b proof) c d is h = h ∙ ap (λ (k : Core). k.view.me) is
-deed_alike (Leaves i e v) c d is h =
-    (h.0 ∙ ap (λ (k : Core). Leaves k.view.me k.place.config.number v) is,
-    subst (λ n. n ≤ v) (ap (λ (k : Core). k.view.left) is) h.1)
-deed_alike (Enters i e v x choice) c d is h =
-    (h.0 ∙ ap (λ (k : Core). Enters k.view.me k.place.config.number v x choice) is,
-    subst (λ n. n < v) (ap (λ (k : Core). k.view.view) is) h.1)
+deed_alike (Leaves i e v) c d is h = (
+  h.0 ∙ ap (λ (k : Core). Leaves k.view.me k.place.config.number v) is,
+  subst (λ n. n ≤ v) (ap (λ (k : Core). k.view.left) is) h.1,
+)
+deed_alike (Enters i e v x choice) c d is h = (
+  h.0 ∙ ap (λ (k : Core). Enters k.view.me k.place.config.number v x choice) is,
+  subst (λ n. n < v) (ap (λ (k : Core). k.view.view) is) h.1,
+)
 
 -- an entry that is no deed changes nothing that an opening finds
 pub other_alike : (entry : Entry) (c d : Core) → map Did (deeds_of (entry ∷ [])) ≡ []
@@ -289,9 +295,10 @@ deeds_alone (Opened ∷ entries) c d is have =
     deeds_alone entries (after_entry Opened c) d (other_alike Opened c d refl is) have.1
 deeds_alone (Came event accepts ∷ entries) c d is have =
     deeds_alone entries (after_entry (Came event accepts) c) d (other_alike (Came event accepts) c d refl is) have.1
-deeds_alone (Did deed ∷ entries) c d is have =
-    (deed_alike deed c d is have.0,
-    deeds_alone entries (after_deed deed c) (after_deed deed d) (done_alike deed c d is) have.1)
+deeds_alone (Did deed ∷ entries) c d is have = (
+  deed_alike deed c d is have.0,
+  deeds_alone entries (after_deed deed c) (after_deed deed d) (done_alike deed c d is) have.1,
+)
 deeds_alone (Signed pledge accepts ∷ entries) c d is have =
     deeds_alone entries (after_entry (Signed pledge accepts) c) d
     (other_alike (Signed pledge accepts) c d refl is) have.1

@@ -1,5 +1,20 @@
 -- The nodes of one world with their disks, and what an opening and a step make of one.
-use Rattle.std.specs.Prelude.{◌≡◌, ◌≢◌, ◌↔◌, ℕ, false, true, List, Option, Some, Result, Ok, Err, is_err, OnOk}
+use Rattle.std.specs.Prelude.{
+  ◌≡◌,
+  ◌≢◌,
+  ◌↔◌,
+  ℕ,
+  false,
+  true,
+  List,
+  Option,
+  Some,
+  Result,
+  Ok,
+  Err,
+  is_err,
+  OnOk,
+}
 use Rattle.gate_log.specs.Arms.{armed}
 use Rattle.gate_log.specs.Disk.{now}
 use Rattle.gate_log.specs.History.{states}
@@ -69,7 +84,8 @@ pub record IsOpenedOn (setup : Setup) (accepts : Acceptance) (disk : MemDisk) (l
   pub chain : IsChain accepts setup.genesis (chain_of l.node.running)
   pub state : state_of l.node.running ≡ opened setup.genesis setup.me (held_of l.node.running.store)
   pub value : OpensTo accepts setup.genesis (now (states disk.history)) (Ok l.node.running.store)
-  pub finds : (chain : List Stored) (core : Core) → Keeps accepts setup.genesis setup.me (files_of disk) chain core
+  pub finds : (chain : List Stored) (core : Core)
+      → Keeps accepts setup.genesis setup.me (files_of disk) chain core
       → IsFound accepts l chain core
   pub any_moment : Went (StaysOpen accepts setup.genesis (now (states disk.history))) (states disk.history)
       (states l.disk.history)
@@ -77,8 +93,10 @@ pub record IsOpenedOn (setup : Setup) (accepts : Acceptance) (disk : MemDisk) (l
 
 -- what `add` comes to: the node stands under its id, or the first fault is told
 abbrev pub Adds : Lodging → Lodging → Setup → Acceptance → MemDisk → Result (Unit {0}) OpenFault → Type 0
-Adds before after setup accepts disk (Ok _) = (l : Lodged) × IsOpenedOn setup accepts disk l × Becomes before after setup.me (Some l)
-Adds before after setup accepts disk (Err fault) = StaysAlike before after × OpensTo accepts setup.genesis (now (states disk.history)) (Err fault)
+Adds before after setup accepts disk (Ok _) =
+    (l : Lodged) × IsOpenedOn setup accepts disk l × Becomes before after setup.me (Some l)
+Adds before after setup accepts disk (Err fault) =
+    StaysAlike before after × OpensTo accepts setup.genesis (now (states disk.history)) (Err fault)
 
 -- what a step comes to by what the keys signed
 abbrev pub TakesSealed : Lodged → Lodged → Event → Seat → Result Out NodeFault → List (Signing Seat) → Type 0
@@ -97,15 +115,17 @@ pub record IsStepOf (old new : Lodged) (event : Event) (before after : Seat) (re
   pub closed : (result ≡ Err fault_of.Closed) ↔ (old.node.closed ≡ true)
   pub nothing : old.node.closed ≡ true → (new.disk ≡ old.disk) × (after ≡ before)
   pub closes : new.node.closed ≡ is_err result
-  pub cause : old.node.closed ≡ false → HasNodeCause (counts old.disk.faults 0) (counts new.disk.faults 0) result
+  pub cause : old.node.closed ≡ false
+      → HasNodeCause (counts old.disk.faults 0) (counts new.disk.faults 0) result
 
 -- what `step` comes to
 abbrev pub StepsAt : Lodging → Lodging → ℕ → Event → Seat → Seat → Result Out NodeFault → Type 0
 StepsAt before after id event keys keys_then result =
-    (old : Lodged) → before id ≡ Some old → (new : Lodged) × IsStepOf old new event keys keys_then result × Becomes before after id (Some new)
+    (old : Lodged) → before id ≡ Some old
+    → (new : Lodged) × IsStepOf old new event keys keys_then result × Becomes before after id (Some new)
 
--- A node with its disk after a read: the node is the same, the files and the arm of its disk too. So it is kept,
--- and holds what it did, where it was and did.
+-- A node with its disk after a read: the node is the same, the files and the arm of its disk too. So it is
+-- kept, and holds what it did, where it was and did.
 pub record IsRead (old new : Lodged) : Type 0 where
   pub node : new.node ≡ old.node
   pub disk : IsUncounted old.disk new.disk
@@ -113,7 +133,8 @@ pub record IsRead (old new : Lodged) : Type 0 where
 -- what a read of a node's disk may change
 abbrev pub ReadsAt : Lodging → Lodging → ℕ → Type 0
 ReadsAt before after id =
-    (old : Lodged) → before id ≡ Some old → (new : Lodged) × IsRead old new × Becomes before after id (Some new)
+    (old : Lodged) → before id ≡ Some old
+    → (new : Lodged) × IsRead old new × Becomes before after id (Some new)
 
 -- with its disk armed
 abbrev pub with_arm : ℕ → Image → Lodged → Lodged

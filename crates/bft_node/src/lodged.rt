@@ -33,7 +33,8 @@ impl Lodged {
     ) -> Result<Lodged, OpenFault>
         requires { IsGenesisConfig setup.now.genesis }
         ensures opened { MatchResult result (IsOpenedOn setup.now (accepts_of keys.old) disk)
-            (λ fault. OpensTo (accepts_of keys.old) setup.now.genesis (now (states disk.history)) (Err fault)) }
+            (λ fault.
+            OpensTo (accepts_of keys.old) setup.now.genesis (now (states disk.history)) (Err fault)) }
         ensures keys { keys.new ≡ keys.old }
     {
         let mut disk = disk;

@@ -87,7 +87,8 @@ fn found_in(place: &Place, durable: Durable) -> Option<Found>
 
 // The newest acceptance is of this view.
 fn is_accepted_in(view: u64, votes: &List<Vote>) -> bool
-    ensures { (block : Option SomeBlock) → accepted_in view votes.now block ≡ (if result then block else None) }
+    ensures { (block : Option SomeBlock)
+        → accepted_in view votes.now block ≡ (if result then block else None) }
 {
     let votes = votes.as_slice();
     !votes.is_empty() && votes[0].view == view
@@ -184,12 +185,12 @@ impl Node {
         // What the files keep of a node is found again, and held.
         ensures finds { IsTrue (D.tells disk.old)
             → FindsAgain (K.accepts keys.old) setup.now.genesis setup.now.me (now (D.moments disk.old))
-                (now (D.moments disk.new)) result }
+            (now (D.moments disk.new)) result }
 
         // A crash at any moment of the call opens to what a crash before it could open to.
         ensures any_moment { IsTrue (D.tells disk.old)
             → Went (StaysOpen (K.accepts keys.old) setup.now.genesis (now (D.moments disk.old)))
-                (D.moments disk.old) (D.moments disk.new) }
+            (D.moments disk.old) (D.moments disk.new) }
         ensures keys { keys.new ≡ keys.old }
         ensures tells { D.tells disk.new ≡ D.tells disk.old }
         ensures later { D.faults disk.old ≤ D.faults disk.new }
@@ -204,8 +205,8 @@ impl Node {
         })
     }
 
-    /// Takes an event, and does all that is due. At `Ok` all that the step did is durable. A step that fails sends nothing,
-    /// and closes the node.
+    /// Takes an event, and does all that is due. At `Ok` all that the step did is durable. A step that fails
+    /// sends nothing, and closes the node.
     pub fn step<D: Disk, K: Signer + Verifier>(
         &mut self,
         event: Event,
@@ -213,9 +214,11 @@ impl Node {
         keys: &mut K,
     ) -> Result<Out, NodeFault>
         // the disk on which the node was opened, as its last call left it
-        requires { IsTrue (D.tells disk.old) → self.old.closed ≡ false → IsKept self.old.running.store (now (D.moments disk.old)) }
+        requires { IsTrue (D.tells disk.old) → self.old.closed ≡ false
+            → IsKept self.old.running.store (now (D.moments disk.old)) }
 
-        ensures kept { IsTrue (D.tells disk.new) → OnOk result (IsKept self.new.running.store (now (D.moments disk.new))) }
+        ensures kept { IsTrue (D.tells disk.new)
+            → OnOk result (IsKept self.new.running.store (now (D.moments disk.new))) }
 
         // By keys of the definition that say what these did and answered. What the keys signed is a list of
         // signings.
@@ -233,7 +236,7 @@ impl Node {
         ensures later { (D.faults disk.old ≤ D.faults disk.new) × (K.faults keys.old ≤ K.faults keys.new) }
         ensures cause { self.old.closed ≡ false
             → HasNodeCause (counts (D.faults disk.old) (K.faults keys.old))
-                (counts (D.faults disk.new) (K.faults keys.new)) result }
+            (counts (D.faults disk.new) (K.faults keys.new)) result }
     {
         if self.closed {
             return Err(NodeFault::Closed);
@@ -248,7 +251,8 @@ impl Node {
     /// Whether it may propose now, whatever is offered.
     pub fn may_propose(&self) -> bool
         ensures { IsTrue result
-            ↔ ((self.now.closed ≡ false) × IsTrue (may_propose (place_of self.now.running) self.now.running.view)) }
+            ↔ ((self.now.closed ≡ false)
+            × IsTrue (may_propose (place_of self.now.running) self.now.running.view)) }
     {
         !self.closed
             && self

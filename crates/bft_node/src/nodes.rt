@@ -48,7 +48,8 @@ pub trait Nodes {
         requires kept { (l : SomeLodged) → at self.old node ≡ Some l → IsKeptIn l }
         ensures { StepsAt (at self.old) (at self.new) node event keys.old keys.new result };
 
-    /// Arms the disk of a node: it stops at this counted call from here, counted from 1, and leaves this image.
+    /// Arms the disk of a node: it stops at this counted call from here, counted from 1, and leaves this
+    /// image.
     fn arm(&mut self, node: u32, call: u32, image: Image)
         requires { is_some (at self.old node) ≡ true }
         ensures { Becomes (at self.old) (at self.new) node
