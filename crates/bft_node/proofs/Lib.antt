@@ -10,6 +10,7 @@ mod OpenLemmas
 mod Opened
 mod PlaceLemmas
 mod RepeatLemmas
+mod Recoverings
 mod Resumed
 mod RuleLemmas
 mod Running
@@ -19,4 +20,5 @@ mod Standings
 mod Stands
 mod StepDeeds
 mod StepLemmas
+mod Takings
 mod ViewLemmas

@@ -1,11 +1,12 @@
 -- What an opening makes of a store.
-use Rattle.std.proofs.Common.{◌≡◌, ◌≢◌, ℕ, false, Ok, sym, ◌∙◌, ap, subst, arith}
+use Rattle.std.proofs.Common.{◌≡◌, ◌≢◌, ℕ, false, Option, Ok, sym, ◌∙◌, ap, subst, arith}
 use Rattle.std.specs.Ordering.{is_eq, nat_cmp}
 use Rattle.std.proofs.lemmas.Bool.Decides.{nat_tests}
 use Rattle.ord_types.specs.Genesis.{IsGenesisConfig, genesis_block}
 use Rattle.ord_types.specs.Grammar.{IsNumber}
 use Rattle.ord_types.specs.declared.values.Block.{Block}
 use Rattle.ord_types.specs.declared.values.Config.{Config}
+use Rattle.ord_types.specs.declared.values.Place.{Place}
 use Rattle.gate_log.specs.Disk.{State}
 use Rattle.signer_edge.specs.Accepts.{Accepts}
 use Rattle.bft_wal.specs.Fold.{durable_of}
@@ -13,7 +14,7 @@ use Rattle.bft_wal.specs.declared.durable.Durable.{Durable}
 use Rattle.block_ledger.specs.Chains.{IsGenesis}
 use Rattle.block_ledger.proofs.Opened.{one_config}
 use Rattle.view_model.specs.Acts.{View}
-use Rattle.node_model.specs.Restarts.{Returned, found_in}
+use Rattle.node_model.specs.Cores.{Core, Found, found_in}
 use Rattle.view_core.specs.Places.{IsPlace}
 use Rattle.bft_node.specs.Returning.{opened, view_at}
 use Rattle.bft_node.specs.Running.{IsSound, as_found, place_of, state_of}
@@ -21,24 +22,35 @@ use Rattle.bft_node.specs.Stores.{OpensTo, config_of, held_of}
 use Rattle.bft_node.specs.declared.live.Running.{Running}
 use Rattle.bft_node.specs.declared.store.Store.{Store}
 
+abbrev core_with : Place → View → Option Found → Core
+core_with place view found = record { place = place; view = view; found = found }
+
 -- a node whose view is that of an opening, with what the log leaves there
-module _ (r : Running) (durable : Durable) (is : durable ≡ durable_of (place_of r).config.number (place_of r).height (held_of r.store).records)
-    (view : r.view ≡ (opened (config_of r.store) r.id (held_of r.store)).core.view) where
+module _ (r : Running) (durable : Durable)
+    (is : durable ≡ durable_of (place_of r).config.number (place_of r).height (held_of r.store).records)
+    (view : r.view ≡ (opened (config_of r.store) r.id (held_of r.store)).view) where
   pub sound_of : IsPlace (place_of r) → IsNumber (place_of r).config.number → IsNumber durable.view → IsSound r
   sound_of place number entered =
       record {
         me = ap (λ (w : View). w.me) view;
         place = place;
-        at = record { config = ap (λ (w : View). w.config) view; members = ap (λ (w : View). w.members) view; height = ap (λ (w : View). w.height) view };
+        at = record {
+          config = ap (λ (w : View). w.config) view;
+          members = ap (λ (w : View). w.members) view;
+          height = ap (λ (w : View). w.height) view;
+        };
         config = number;
-        view = subst IsNumber (ap (λ (d : Durable). d.view) is ∙ sym (ap (λ (w : View). w.view) view)) entered;
+        view =
+            subst IsNumber (ap (λ (d : Durable). d.view) is ∙ sym (ap (λ (w : View). w.view) view)) entered;
       }
 
-  pub state_opened : as_found r.found ≡ found_in (place_of r) (view_at r.id (place_of r) durable) → state_of r ≡ opened (config_of r.store) r.id (held_of r.store)
+  pub state_opened : as_found r.found ≡ found_in (place_of r) (view_at r.id (place_of r) durable)
+      → state_of r ≡ opened (config_of r.store) r.id (held_of r.store)
   state_opened found =
-      ap (λ (f : _). let s : Returned = record { core = record { place = place_of r; view = r.view }; found = f } in s) found
-      ∙ ap (λ (d : Durable). let s : Returned = record { core = record { place = place_of r; view = r.view }; found = found_in (place_of r) (view_at r.id (place_of r) d) } in s) is
-      ∙ ap (λ (w : View). let s : Returned = record { core = record { place = place_of r; view = w }; found = found_in (place_of r) (opened (config_of r.store) r.id (held_of r.store)).core.view } in s) view
+      ap (core_with (place_of r) r.view) found
+      ∙ ap (λ (d : Durable). core_with (place_of r) r.view (found_in (place_of r) (view_at r.id (place_of r) d))) is
+      ∙ ap (λ (w : View). core_with (place_of r) w
+      (found_in (place_of r) (opened (config_of r.store) r.id (held_of r.store)).view)) view
 
 -- the configuration with whose block a store was opened
 pub opened_on : (store : Store) (c : Config) (block : Block) → IsGenesisConfig c → block ≡ genesis_block c → IsGenesis (config_of store) block → config_of store ≡ c

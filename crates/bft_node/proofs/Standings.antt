@@ -1,5 +1,5 @@
 -- A node that stands so goes on so.
-use Rattle.std.proofs.Common.{◌≡◌, inl, inr, ℕ, suc, ◌<◌, ◌≤◌, Bool, true, false, ◌||◌, ◌&&◌, List, [], ◌∷◌, ◌++◌, Option, Some, None, filter_map, option_map, refl, sym, ◌∙◌, ap, subst, arith}
+use Rattle.std.proofs.Common.{◌≡◌, inl, inr, ℕ, suc, ◌<◌, ◌≤◌, Bool, true, false, ◌||◌, ◌&&◌, List, [], ◌∷◌, ◌++◌, max, Option, Some, None, filter_map, option_map, refl, sym, ◌∙◌, ap, subst, arith}
 use Rattle.std.specs.Prelude.{◌==◌, if◌then◌else◌}
 use Rattle.std.specs.List.{AllByRecursion, list_any}
 use Rattle.std.specs.Str.{bytes_eq}
@@ -16,7 +16,8 @@ use Rattle.ord_types.specs.declared.values.Place.{Place}
 use Rattle.ord_types.specs.declared.values.Vote.{Vote}
 use Rattle.bft_wal.specs.Fold.{acceptance_in, block_of, durable_of, entered_view, greatest, has_digest, in_front, is_accepted, is_below, left_view, newest, newest_below, newest_prepared, last_block, newest_vote, newest_votes, preparation_in, view_accepted, view_voted, with_block, with_its}
 use Rattle.bft_wal.specs.declared.record.WalRecord.{WalRecord}
-use Rattle.bft_wal.specs.declared.record.WalRecord.TheVariants.{Accepted, Prepared}
+use Rattle.bft_wal.specs.declared.record.WalRecord.TheVariants.{Accepted, Prepared, Left, Entered}
+use Rattle.bft_wal.proofs.OneMore.{entering, leaving}
 use Rattle.view_model.specs.Acts.{View}
 use Rattle.bft_node.specs.Returning.{accepted_in, is_prepared_in, view_at}
 use Rattle.bft_node.specs.Standing.{IsBacked, NothingAhead}
@@ -134,6 +135,39 @@ found_is me place e s rs all =
 backed_votes : (e s v : ℕ) (rs : List WalRecord) → IsBacked e s v rs → AllByRecursion (λ (vote : Vote). is_accepted (acceptances e s rs) vote ≡ true) (preparations e s rs)
 backed_votes e s v rs backed =
     all_to (λ (vote : Vote). (vote.view ≤ v) × (is_accepted (acceptances e s rs) vote ≡ true)) (λ (vote : Vote). is_accepted (acceptances e s rs) vote ≡ true) (λ vote h. h.1) (preparations e s rs) backed.prepared
+
+-- a record more that adds neither an acceptance nor a preparation
+same_backed : (e s v : ℕ) (rs : List WalRecord) (r : WalRecord)
+    → acceptances e s (rs ++ r ∷ []) ≡ acceptances e s rs → preparations e s (rs ++ r ∷ []) ≡ preparations e s rs
+    → IsBacked e s v rs → IsBacked e s v (rs ++ r ∷ [])
+same_backed e s v rs r accepted prepared backed =
+    record {
+      accepted = subst (AllByRecursion (λ (a : Acceptance). view_accepted a ≤ v)) (sym accepted) backed.accepted;
+      prepared =
+          subst (λ (xs : List Acceptance). AllByRecursion (λ (vote : Vote). (vote.view ≤ v)
+          × (is_accepted xs vote ≡ true)) (preparations e s (rs ++ r ∷ []))) (sym accepted)
+          (subst (AllByRecursion (λ (vote : Vote). (vote.view ≤ v)
+          × (is_accepted (acceptances e s rs) vote ≡ true))) (sym prepared) backed.prepared);
+    }
+
+-- in a greater view
+raised_backed : (e s v to : ℕ) (rs : List WalRecord) → v ≤ to → IsBacked e s v rs → IsBacked e s to rs
+raised_backed e s v to rs le backed =
+    record {
+      accepted =
+          all_to (λ (a : Acceptance). view_accepted a ≤ v) (λ (a : Acceptance). view_accepted a ≤ to)
+          (λ a h. omega (arith, le, h)) (acceptances e s rs) backed.accepted;
+      prepared =
+          all_to (λ (vote : Vote). (vote.view ≤ v) × (is_accepted (acceptances e s rs) vote ≡ true))
+          (λ (vote : Vote). (vote.view ≤ to) × (is_accepted (acceptances e s rs) vote ≡ true))
+          (λ vote h. (omega (arith, le, h.0), h.1)) (preparations e s rs) backed.prepared;
+    }
+
+greater : (m n : ℕ) → m ≤ n → max m n ≡ n
+greater m n le = omega (arith, le)
+
+under : (n m : ℕ) → n < m → (n == m) ≡ false
+under n m lt = elim (eqb_tells n m) [ inl a ↦ absurd (omega (arith, lt, a.1)) | inr b ↦ b.0 ]
 
 -- AN ACCEPTANCE MORE
 
@@ -315,3 +349,92 @@ nothing_backed e s v rs none no_vote =
       accepted = subst (AllByRecursion (λ (a : Acceptance). view_accepted a ≤ v)) (sym none) tt;
       prepared = subst (AllByRecursion (λ (vote : Vote). (vote.view ≤ v) × (is_accepted (acceptances e s rs) vote ≡ true))) (sym no_vote) tt;
     }
+
+-- A LEAVING MORE
+
+abbrev pub leaves_for : ℕ → View → View
+leaves_for v w = record w { left = v }
+
+module _ (rs : List WalRecord) (e v s : ℕ) where
+  accepted_left : (n : ℕ) → acceptances e n (rs ++ Left e v ∷ []) ≡ acceptances e n rs
+  accepted_left n = more_none (acceptance_in e n) rs (Left e v) refl
+
+  prepared_left : (n : ℕ) → preparations e n (rs ++ Left e v ∷ []) ≡ preparations e n rs
+  prepared_left n = more_none (preparation_in e n) rs (Left e v) refl
+
+  pub left_ahead : NothingAhead e s rs → NothingAhead e s (rs ++ Left e v ∷ [])
+  left_ahead ahead =
+      record {
+        accepted = λ n lt. accepted_left n ∙ ahead.accepted n lt;
+        prepared = λ n lt. prepared_left n ∙ ahead.prepared n lt;
+      }
+
+  pub left_backed : (view : ℕ) → IsBacked e s view rs → IsBacked e s view (rs ++ Left e v ∷ [])
+  left_backed view backed = same_backed e s view rs (Left e v) (accepted_left s) (prepared_left s) backed
+
+  pub left_found : (me : ℕ) (place : Place) → lefts e rs ≤ v
+      → view_at me place (durable_of e s (rs ++ Left e v ∷ [])) ≡ leaves_for v (view_at me place (durable_of e s rs))
+  left_found me place le =
+      ap (view_at me place) (leaving e s rs v)
+      ∙ ap (λ n. leaves_for n (view_at me place (durable_of e s rs))) (greater (lefts e rs) v le)
+
+-- AN ENTERING MORE
+
+abbrev pub enters_in : ℕ → View → View
+enters_in v w = record w { view = v; accepted = None; is_prepared = false; kept = [] }
+
+-- no acceptance and no vote of a lower view is of this one
+block_below : (view : ℕ) (o : Option Acceptance) → ((a : Acceptance) → o ≡ Some a → view_accepted a < view)
+    → block_if view o ≡ None
+block_below view None below = refl
+block_below view (Some a) below = rw (under (view_accepted a) view (below a refl)) refl
+
+vote_below : (view : ℕ) (o : Option Vote) → ((vote : Vote) → o ≡ Some vote → vote.view < view)
+    → voted_in view o ≡ false
+vote_below view None below = refl
+vote_below view (Some vote) below = under vote.view view (below vote refl)
+
+module _ (rs : List WalRecord) (e v s number : ℕ) (carried : Option Vote) where
+  abbrev entered : WalRecord
+  entered = Entered e v number carried
+
+  accepted_entered : (n : ℕ) → acceptances e n (rs ++ entered ∷ []) ≡ acceptances e n rs
+  accepted_entered n = more_none (acceptance_in e n) rs entered refl
+
+  prepared_entered : (n : ℕ) → preparations e n (rs ++ entered ∷ []) ≡ preparations e n rs
+  prepared_entered n = more_none (preparation_in e n) rs entered refl
+
+  pub entered_ahead : NothingAhead e s rs → NothingAhead e s (rs ++ entered ∷ [])
+  entered_ahead ahead =
+      record {
+        accepted = λ n lt. accepted_entered n ∙ ahead.accepted n lt;
+        prepared = λ n lt. prepared_entered n ∙ ahead.prepared n lt;
+      }
+
+  pub entered_backed : (view : ℕ) → view ≤ v → IsBacked e s view rs → IsBacked e s v (rs ++ entered ∷ [])
+  entered_backed view le backed =
+      same_backed e s v rs entered (accepted_entered s) (prepared_entered s) (raised_backed e s view v rs le backed)
+
+  pub entered_found : (me : ℕ) (place : Place) (view : ℕ) → view ≡ viewed e rs → view < v → IsBacked e s view rs
+      → view_at me place (durable_of e s (rs ++ entered ∷ [])) ≡ enters_in v (view_at me place (durable_of e s rs))
+  entered_found me place view is lt backed =
+      let xs : List Acceptance = acceptances e s rs in
+      let votes : List Vote = preparations e s rs in
+      let above : max (viewed e rs) v ≡ v = greater (viewed e rs) v (omega (arith, is, lt)) in
+      let block : block_if v (newest view_accepted xs) ≡ None =
+      block_below v (newest view_accepted xs)
+      (λ a at. omega (arith, lt, newest_has view_accepted (λ (b : Acceptance). view_accepted b ≤ view) xs a backed.accepted at)) in
+      let vote : voted_in v (newest view_voted votes) ≡ false =
+      vote_below v (newest view_voted votes)
+      (λ a at. omega (
+        arith,
+        lt,
+        (newest_has view_voted
+            (λ (b : Vote). (b.view ≤ view) × (is_accepted xs b ≡ true)) votes a backed.prepared at).0,
+      )) in
+      ap (view_at me place) (entering e s rs v number carried)
+      ∙ same_parts me place (max (viewed e rs) v) v (lefts e rs) (lefts e rs) _ None _ false above refl
+      (ap (λ n. accepted_in n (newest_votes 32 None xs) (block_of (newest_below None xs))) above
+      ∙ found_block v 31 xs ∙ block)
+      (ap (λ n. is_prepared_in n (with_block xs (newest_prepared xs votes))) above
+      ∙ found_prepared v xs votes (backed_votes e s view rs backed) ∙ vote)

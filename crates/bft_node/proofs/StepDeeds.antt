@@ -1,185 +1,308 @@
 -- Each deed of a step is one of a node that stands where it is done.
-use Rattle.std.proofs.Common.{◌≡◌, ℕ, zero, suc, Bool, true, false, cond, eqb, ap, ◌∙◌, sym, refl, List, [], ◌∷◌, ◌++◌, Option, Some, None, option_map}
-use Rattle.std.specs.Prelude.{if◌then◌else◌, nat_le}
+use Rattle.std.proofs.Common.{
+  ◌≡◌,
+  ℕ,
+  zero,
+  suc,
+  ◌<◌,
+  ◌≤◌,
+  Bool,
+  true,
+  false,
+  cond,
+  ap,
+  subst,
+  ◌∙◌,
+  sym,
+  refl,
+  List,
+  [],
+  ◌∷◌,
+  ◌++◌,
+  take,
+  map,
+  Option,
+  Some,
+  None,
+  option_map,
+}
+use Rattle.std.specs.Prelude.{if◌then◌else◌, nat_le, ⊤}
+use Rattle.std.specs.List.{AllByRecursion}
 use Rattle.std.proofs.lemmas.Option.{none-some}
 use Rattle.ord_types.specs.Hashes.{block_hash}
 use Rattle.ord_types.specs.declared.values.Block.{Block}
 use Rattle.ord_types.specs.declared.values.Cert.{Cert}
 use Rattle.ord_types.specs.declared.values.Place.{Place}
-use Rattle.signer_edge.specs.Accepts.{Accepts as Accepted}
-use Rattle.signer_edge.specs.Statements.{commit_text}
+use Rattle.ord_types.specs.declared.values.Request.{Request}
+use Rattle.signer_edge.specs.Accepts.{Accepts as Acceptance}
 use Rattle.bft_wire.specs.declared.message.Message.{Message}
-use Rattle.view_model.specs.Acts.{View, acceptance_due, digest_if, preparation_due, quorum_of, prepares}
-use Rattle.view_model.specs.Answers.{after_act, is_new, keep, kept_after}
-use Rattle.node_model.specs.Cores.{Core, core_accepts, core_comes, core_delivers, core_hears, core_prepares}
-use Rattle.node_model.specs.Deeds.{Deed, Accepts, Prepares, Delivers, Logged, acceptance, core_did, core_does, logged, logged_ways, preparation, unlogged}
-use Rattle.view_model.specs.Letters.{Commit, letter_in}
-use Rattle.view_model.specs.declared.letter.Letter.{Letter}
-use Rattle.node_model.specs.Restarts.{Found, Returned, core_reopens, repeat_round, repeats_if, repeats_on, repeats_votes, returned_returns, returned_ways, step}
-use Rattle.node_model.specs.Steps.{Event, Tick, FromMember, Keys, Making, Ways, accept_round, begins, commit_message, deliver_round, makes_accepted, makes_delivered, makes_prepared, own_rule, prepare_round, preprepare_message, propose_round, rounds, votes}
-use Rattle.view_model.specs.declared.act.Act.TheVariants as act_of
-use Rattle.view_model.specs.declared.letter.VoteMessage.TheVariants as vote_of
-use Rattle.node_model.proofs.DeedLemmas.{does_reopened}
-use Rattle.bft_node.specs.Standing.{AreDeedsOf, IsDeedOf, IsThere, StepsHaveDeeds}
+use Rattle.view_model.specs.Acts.{
+  View,
+  acceptance_due,
+  delivery_due,
+  digest_if,
+  preparation_due,
+  prepares,
+  proposed,
+  quorum_of,
+}
+use Rattle.node_model.specs.Cores.{Core, Found, after_deed, after_entries, after_entry, after_opening}
+use Rattle.node_model.specs.Entries.{
+  Deed,
+  Accepts,
+  Prepares,
+  Delivers,
+  Leaves,
+  Enters,
+  Entry,
+  Opened,
+  Came,
+  Did,
+  Signed,
+  Sent,
+  deeds_of,
+  is_tick,
+  offer_in,
+  statements_of,
+}
+use Rattle.node_model.specs.declared.event.Event.{Event}
+use Rattle.node_model.specs.Steps.{
+  Keys,
+  Rule,
+  Duty,
+  Accept,
+  Prepare,
+  Deliver,
+  ◌then_do◌,
+  accept_duty,
+  acceptance,
+  all_due,
+  at_most,
+  comes,
+  commits_if,
+  current,
+  deliver_duty,
+  does,
+  duties,
+  duty,
+  first_some,
+  for_duty,
+  most_duties,
+  own_rule,
+  preparation,
+  prepare_duty,
+  proposes,
+  proposes_of,
+  repeats,
+  repeats_found,
+  repeated_votes,
+  step,
+  then_on,
+  to_all,
+}
+use Rattle.node_model.proofs.OpeningLemmas.{done_alike, opening_finds}
+use Rattle.node_model.proofs.RuleLemmas.{after_append}
+use Rattle.bft_node.specs.Standing.{AreDeedsOf, IsDeedOf, StepsHaveDeeds}
 
-abbrev Step : Type 0
-Step = Making (Logged Returned)
+-- a deed, if the entry is one, is of a node that stands so
+abbrev pub HasDeed : Entry → Core → Type 0
+HasDeed Opened c = ⊤
+HasDeed (Came event accepts) c = ⊤
+HasDeed (Did deed) c = IsDeedOf c deed
+HasDeed (Signed pledge accepts) c = ⊤
+HasDeed (Sent receivers message) c = ⊤
 
-abbrev core_in : Step → Core
-core_in m = m.state.state.core
+abbrev pub AllHaveDeeds : List Entry → Core → Type 0
+AllHaveDeeds [] c = ⊤
+AllHaveDeeds (entry ∷ entries) c = HasDeed entry c × AllHaveDeeds entries (after_entry entry c)
 
-abbrev the_ways : Ways (Logged Returned)
-the_ways = logged_ways returned_ways
+pub have_front : (cut : ℕ) (entries : List Entry) (c : Core) → AllHaveDeeds entries c
+    → AllHaveDeeds (take cut entries) c
+have_front zero entries c have = tt
+have_front (suc cut) [] c have = tt
+have_front (suc cut) (entry ∷ entries) c have =
+    (have.0, have_front cut entries (after_entry entry c) have.1)
 
--- THE VOTES THAT ARE KEPT change nothing that a restart finds
+have_append : (one more : List Entry) (c : Core) → AllHaveDeeds one c → AllHaveDeeds more (after_entries one c)
+    → AllHaveDeeds (one ++ more) c
+have_append [] more c have rest = rest
+have_append (entry ∷ one) more c have rest =
+    (have.0, have_append one more (after_entry entry c) have.1 rest)
 
-dropped_if : (b : Bool) (place : Place) (l : Letter) (w : View) → core_reopens (record { place = place; view = cond b (keep l w) w }) ≡ core_reopens (record { place = place; view = w })
-dropped_if true place l w = refl
-dropped_if false place l w = refl
+-- RULES
 
-dropped : (accepts : Accepted) (place : Place) (w : View) (l : Letter) → core_reopens (record { place = place; view = kept_after accepts place w l }) ≡ core_reopens (record { place = place; view = w })
-dropped accepts place w l = dropped_if (is_new accepts place w l) place l w
+abbrev RuleHas : Rule → Type 0
+RuleHas rule = (signed : List (List ℕ)) (c : Core) → AllHaveDeeds (rule signed c) c
 
-unheard_if : (b : Bool) (c d : Core) → core_reopens d ≡ core_reopens c → core_reopens (cond b c d) ≡ core_reopens c
-unheard_if true c d is = refl
-unheard_if false c d is = is
+on_has : (rule : Rule) → RuleHas rule → (signed : List (List ℕ)) (c : Core) (made : List Entry)
+    → AllHaveDeeds made c → AllHaveDeeds (then_on rule signed c made) c
+on_has rule has signed c made have =
+    have_append made (rule (signed ++ statements_of made) (after_entries made c)) c have
+    (has (signed ++ statements_of made) (after_entries made c))
 
-unheard : (o : Option Letter) (accepts : Accepted) (c : Core) → core_reopens (core_hears o accepts c) ≡ core_reopens c
-unheard None accepts c = refl
-unheard (Some l) accepts c = unheard_if (eqb l.from c.view.me) c (record c { view = kept_after accepts c.place c.view l }) (dropped accepts c.place c.view l)
+then_has : (first second : Rule) → RuleHas first → RuleHas second → RuleHas (first then_do second)
+then_has first second one other signed c = on_has second other signed c (first signed c) (one signed c)
 
-came : (event : Event) (accepts : Accepted) (c : Core) → core_reopens (core_comes event accepts c) ≡ core_reopens c
-came (Tick offer) accepts c = refl
-came (FromMember from bytes) accepts c = unheard (letter_in from bytes) accepts c
+-- WHAT IS PREPARED was accepted
 
--- ONE DEED MORE
-
-did_push : (deeds : List Deed) (deed : Deed) (c : Core) → core_did (deeds ++ deed ∷ []) c ≡ core_does deed (core_did deeds c)
-did_push [] deed c = refl
-did_push (first ∷ deeds) deed c = did_push deeds deed (core_does first c)
-
-does_same : (deed : Deed) (c d : Core) → core_reopens c ≡ core_reopens d → core_reopens (core_does deed c) ≡ core_reopens (core_does deed d)
-does_same deed c d is = does_reopened deed c ∙ ap (λ (x : Core). core_reopens (core_does deed x)) is ∙ sym (does_reopened deed d)
-
-are_push : (start : Core) (deeds : List Deed) (deed : Deed) → AreDeedsOf start deeds → IsDeedOf (core_did deeds start) deed → AreDeedsOf start (deeds ++ deed ∷ [])
-are_push start [] deed are is = (is, tt)
-are_push start (first ∷ deeds) deed are is = (are.0, are_push (core_does first start) deeds deed are.1 is)
-
-there_same : (c d : Core) (i e v s : ℕ) → core_reopens c ≡ core_reopens d → IsThere c i e v s → IsThere d i e v s
-there_same c d i e v s is h =
-    record {
-      node = h.node ∙ ap (λ (k : Core). k.view.me) is;
-      config = h.config ∙ ap (λ (k : Core). k.place.config.number) is;
-      view = h.view ∙ ap (λ (k : Core). k.view.view) is;
-      number = h.number ∙ ap (λ (k : Core). k.place.height) is;
-    }
-
-deed_same : (deed : Deed) (c d : Core) → core_reopens c ≡ core_reopens d → IsDeedOf c deed → IsDeedOf d deed
-deed_same (Accepts i e v s b) c d is h = there_same c d i e v s is h
-deed_same (Prepares i e v s digest) c d is h = (there_same c d i e v s is h.0, ap (λ (k : Core). option_map block_hash k.view.accepted) (sym is) ∙ h.1)
-deed_same (Delivers i b cert) c d is h = h ∙ ap (λ (k : Core). k.view.me) is
-
--- the deeds so far are deeds, and what they leave is what the step has, but for the votes that are kept
-pub record IsGood (start : Core) (m : Step) : Type 0 where
-  deeds : AreDeedsOf start m.state.deeds
-  same : core_reopens (core_in m) ≡ core_reopens (core_did m.state.deeds start)
-
-more : (start : Core) (m : Step) (deed : Deed) (next : Core) → IsGood start m → IsDeedOf (core_in m) deed → core_reopens next ≡ core_reopens (core_does deed (core_in m))
-    → AreDeedsOf start (m.state.deeds ++ deed ∷ []) × (core_reopens next ≡ core_reopens (core_did (m.state.deeds ++ deed ∷ []) start))
-more start m deed next good is taken = (
-  are_push start m.state.deeds deed good.deeds (deed_same deed (core_in m) (core_did m.state.deeds start) good.same is),
-  taken ∙ does_same deed (core_in m) (core_did m.state.deeds start) good.same ∙ ap core_reopens (sym (did_push m.state.deeds deed start)),
-)
-
-there : (c : Core) → IsThere c c.view.me c.place.config.number c.view.view c.place.height
-there c = record { node = refl; config = refl; view = refl; number = refl }
-
--- THE PARTS OF A STEP
-
-accepted_good : (start : Core) (b : Block) (first : List Message) (m : Step) → IsGood start m → IsGood start (makes_accepted the_ways b first m)
-accepted_good start b first m good =
-    let c = core_in m in
-    let both = more start m (acceptance c.place c.view b) (core_accepts b c) good (there c) refl in
-    record { deeds = both.0; same = both.1 }
-
-hash_if : (t : Bool) (b : Block) (d : List ℕ) → (if t then Some (block_hash b) else None) ≡ Some d → Some (block_hash b) ≡ Some d
+hash_if : (t : Bool) (b : Block) (d : List ℕ) → (if t then Some (block_hash b) else None) ≡ Some d
+    → Some (block_hash b) ≡ Some d
 hash_if true b d h = h
 hash_if false b d h = absurd (none-some d h)
 
-due_if : (t : Bool) (place : Place) (w : View) (o : Option Block) (d : List ℕ) → (if t then digest_if place w o else None) ≡ Some d → option_map block_hash o ≡ Some d
+due_if : (t : Bool) (place : Place) (w : View) (o : Option Block) (d : List ℕ)
+    → (if t then digest_if place w o else None) ≡ Some d → option_map block_hash o ≡ Some d
 due_if true place w None d h = absurd (none-some d h)
-due_if true place w (Some b) d h = hash_if (nat_le (quorum_of place.config) (prepares place w (block_hash b))) b d h
+due_if true place w (Some b) d h =
+    hash_if (nat_le (quorum_of place.config) (prepares place w (block_hash b))) b d h
 due_if false place w o d h = absurd (none-some d h)
 
-due_accepted : (place : Place) (w : View) (d : List ℕ) → preparation_due place w ≡ Some d → option_map block_hash w.accepted ≡ Some d
+due_accepted : (place : Place) (w : View) (d : List ℕ) → preparation_due place w ≡ Some d
+    → option_map block_hash w.accepted ≡ Some d
 due_accepted place w d h = due_if _ place w w.accepted d h
 
-prepared_good : (start : Core) (keys : Keys) (d : List ℕ) (m : Step) → preparation_due (core_in m).place (core_in m).view ≡ Some d → IsGood start m → IsGood start (makes_prepared the_ways keys d m)
-prepared_good start keys d m due good =
-    let c = core_in m in
-    let commit : Commit = commit_message c.place c.view d (keys.signs m.signed) in
-    let accepts : Accepted = keys.accepts (m.signed ++ commit_text c.place.config.number c.view.view c.place.height d ∷ []) in
-    let both = more start m (preparation c.place c.view d) (core_prepares d commit accepts c) good (there c, due_accepted c.place c.view d due)
-    (dropped accepts c.place (after_act (act_of.Prepare d) c.view) (record { from = c.view.me; message = vote_of.Commit commit })) in
-    record { deeds = both.0; same = both.1 }
+-- EACH DUTY
 
-delivered_good : (start : Core) (b : Block) (cert : Cert) (m : Step) → IsGood start m → IsGood start (makes_delivered the_ways b cert m)
-delivered_good start b cert m good =
-    let c = core_in m in
-    let both = more start m (Delivers c.view.me b cert) (core_delivers b cert c) good refl refl in
-    record { deeds = both.0; same = both.1 }
+-- what is done for a duty of a rank, where it is due
+abbrev Does : Keys → List (List ℕ) → Core → Option Duty → Type 0
+Does keys signed c o = (d : Duty) → o ≡ Some d → AllHaveDeeds (does keys d signed c) c
 
-accept_good : (start : Core) (o : Option Block) (m : Step) → IsGood start m → IsGood start (accept_round the_ways o m)
-accept_good start None m good = good
-accept_good start (Some b) m good = accepted_good start b [] m good
+first_does : (keys : Keys) (signed : List (List ℕ)) (c : Core) (os : List (Option Duty))
+    → AllByRecursion (Does keys signed c) os → Does keys signed c (first_some os)
+first_does keys signed c [] all d is = absurd (cc)
+first_does keys signed c (None ∷ os) all d is = first_does keys signed c os all.1 d is
+first_does keys signed c (Some first ∷ os) all d is = all.0 d is
 
-prepare_good : (start : Core) (keys : Keys) (o : Option (List ℕ)) (m : Step) → preparation_due (core_in m).place (core_in m).view ≡ o → IsGood start m → IsGood start (prepare_round the_ways keys o m)
-prepare_good start keys None m due good = good
-prepare_good start keys (Some d) m due good = prepared_good start keys d m due good
+accept_does : (keys : Keys) (signed : List (List ℕ)) (c : Core) (o : Option Block)
+    → Does keys signed c (accept_duty o)
+accept_does keys signed c None d is = absurd (cc)
+accept_does keys signed c (Some b) d is =
+    let same : Accept b ≡ d = cc in
+    subst (λ (x : Duty). AllHaveDeeds (does keys x signed c) c) same (refl, (tt, tt))
 
-votes_good : (start : Core) (keys : Keys) (m : Step) → IsGood start m → IsGood start (votes the_ways keys m)
-votes_good start keys m good =
-    let o : Option Block = acceptance_due (keys.accepts m.signed) (core_in m).place (core_in m).view in
-    prepare_good start keys _ (accept_round the_ways o m) refl (accept_good start o m good)
+prepare_does : (keys : Keys) (signed : List (List ℕ)) (c : Core) (o : Option (List ℕ))
+    → preparation_due c.place c.view ≡ o → Does keys signed c (prepare_duty o)
+prepare_does keys signed c None at d is = absurd (cc)
+prepare_does keys signed c (Some h) at d is =
+    let same : Prepare h ≡ d = cc in
+    subst (λ (x : Duty). AllHaveDeeds (does keys x signed c) c) same
+    ((refl, due_accepted c.place c.view h at), (tt, (tt, tt)))
 
-deliver_good : (start : Core) (o : Option (Block × Cert)) (m : Step) (rest : Step → Step) → IsGood start m → ((x : Step) → IsGood start x → IsGood start (rest x)) → IsGood start (deliver_round the_ways o m rest)
-deliver_good start None m rest good to = good
-deliver_good start (Some d) m rest good to = to (makes_delivered the_ways d.0 d.1 m) (delivered_good start d.0 d.1 m good)
+deliver_does : (keys : Keys) (signed : List (List ℕ)) (c : Core) (o : Option (Block × Cert))
+    → Does keys signed c (deliver_duty o)
+deliver_does keys signed c None d is = absurd (cc)
+deliver_does keys signed c (Some b) d is =
+    let same : Deliver b.0 b.1 ≡ d = cc in
+    subst (λ (x : Duty). AllHaveDeeds (does keys x signed c) c) same (refl, tt)
 
-rounds_good : (start : Core) (keys : Keys) (n : ℕ) (m : Step) → IsGood start m → IsGood start (rounds the_ways keys n m)
-rounds_good start keys zero m good = good
-rounds_good start keys (suc n) m good =
-    deliver_good start _ (votes the_ways keys m) (λ x. rounds the_ways keys n x) (votes_good start keys m good) (λ x h. rounds_good start keys n x h)
+told_does : (accepts : Acceptance) (keys : Keys) (signed : List (List ℕ)) (c : Core)
+    → Does keys signed c (duty accepts c)
+told_does accepts keys signed c =
+    first_does keys signed c (duties accepts c) (
+      accept_does keys signed c (acceptance_due accepts c.place c.view),
+      (
+        prepare_does keys signed c (preparation_due c.place c.view) refl,
+        (deliver_does keys signed c (delivery_due c.place c.view), tt),
+      ),
+    )
 
-propose_good : (start : Core) (o : Option Block) (m : Step) → IsGood start m → IsGood start (propose_round the_ways o m)
-propose_good start None m good = good
-propose_good start (Some b) m good = accepted_good start b (preprepare_message (the_ways.place m.state) (the_ways.view m.state) b ∷ []) m good
+-- THE PARTS OF A STEP
 
-own_good : (start : Core) (event : Event) (m : Step) → IsGood start m → IsGood start (own_rule the_ways event m)
-own_good start (Tick offer) m good = propose_good start _ m good
-own_good start (FromMember from bytes) m good = good
+duty_has : (keys : Keys) (rest : Rule) → RuleHas rest
+    → (signed : List (List ℕ)) (c : Core) (o : Option Duty) → Does keys signed c o
+    → AllHaveDeeds (for_duty keys rest o signed c) c
+duty_has keys rest has signed c None all = tt
+duty_has keys rest has signed c (Some d) all =
+    on_has rest has signed c (does keys d signed c) (all d refl)
 
-signed_good : (start : Core) (keys : Keys) (t : Bool) (d : List ℕ) (m : Step) → IsGood start m → IsGood start (repeats_if (logged returned_returns) keys t d m)
-signed_good start keys true d m good =
-    let c = core_in m in
-    let commit : Commit = commit_message c.place c.view d (keys.signs m.signed) in
-    let accepts : Accepted = keys.accepts (m.signed ++ commit_text c.place.config.number c.view.view c.place.height d ∷ []) in
-    record { deeds = good.deeds; same = dropped accepts c.place c.view (record { from = c.view.me; message = vote_of.Commit commit }) ∙ good.same }
-signed_good start keys false d m good = good
+at_most_has : (keys : Keys) (n : ℕ) → RuleHas (at_most keys n)
+at_most_has keys zero signed c = tt
+at_most_has keys (suc n) signed c =
+    duty_has keys (at_most keys n) (at_most_has keys n) signed c (duty (keys.accepts signed) c)
+    (told_does (keys.accepts signed) keys signed c)
 
-repeat_good : (start : Core) (keys : Keys) (o : Option Found) (m : Step) → IsGood start m → IsGood start (repeat_round (logged returned_returns) keys o m)
-repeat_good start keys None m good = good
-repeat_good start keys (Some f) m good =
-    signed_good start keys f.is_prepared (block_hash f.block) (repeats_votes the_ways f.block m) (record { deeds = good.deeds; same = good.same })
+sends_have : (c now : Core) (messages : List Message) → AllHaveDeeds (map (to_all c) messages) now
+sends_have c now [] = tt
+sends_have c now (message ∷ messages) = (tt, sends_have c now messages)
 
-repeats_good : (start : Core) (keys : Keys) (event : Event) (found : Option Found) (m : Step) → IsGood start m → IsGood start (repeats_on (logged returned_returns) keys event found m)
-repeats_good start keys (Tick offer) found m good = repeat_good start keys _ m good
-repeats_good start keys (FromMember from bytes) found m good = good
+commits_have : (keys : Keys) (b : Bool) (d : List ℕ) (signed : List (List ℕ)) (c now : Core)
+    → AllHaveDeeds (commits_if b keys signed c d) now
+commits_have keys true d signed c now = (tt, (tt, tt))
+commits_have keys false d signed c now = tt
+
+found_has : (keys : Keys) (found : Option Found) → RuleHas (repeats_found keys found)
+found_has keys None signed c = tt
+found_has keys (Some f) signed c =
+    have_append (map (to_all c) (repeated_votes c.place c.view f.block))
+    (commits_if f.is_prepared keys signed c _) c (sends_have c c (repeated_votes c.place c.view f.block))
+    (commits_have keys f.is_prepared _ signed c _)
+
+repeats_have : (keys : Keys) (found : Option Found) (event : Event) → RuleHas (repeats keys found event)
+repeats_have keys found event signed c =
+    found_has keys (cond (is_tick event) (current c.place c.view found) None) signed c
+
+proposes_has : (o : Option Block) (c : Core) → AllHaveDeeds (proposes o c) c
+proposes_has None c = tt
+proposes_has (Some b) c = (refl, (tt, (tt, tt)))
+
+offered_has : (o : Option (List Request)) (c : Core) → AllHaveDeeds (proposes_of o c) c
+offered_has None c = tt
+offered_has (Some offer) c = proposes_has (proposed c.place c.view offer) c
+
+own_has : (event : Event) → RuleHas (own_rule event)
+own_has event signed c = offered_has (offer_in event) c
+
+comes_has : (keys : Keys) (event : Event) → RuleHas (comes keys event)
+comes_has keys event signed c = (tt, tt)
+
+pub step_has : (keys : Keys) (c : Core) (event : Event) → AllHaveDeeds (step keys c event) c
+unfolding step
+step_has keys c event =
+    then_has (comes keys event then_do repeats keys c.found event then_do own_rule event) (all_due keys)
+    (then_has (comes keys event then_do repeats keys c.found event) (own_rule event)
+    (then_has (comes keys event) (repeats keys c.found event) (comes_has keys event)
+    (repeats_have keys c.found event)) (own_has event))
+    (λ signed now. at_most_has keys (most_duties now) signed now) [] c
+
+-- THE DEEDS ALONE, one after another
+
+deed_alike : (deed : Deed) (c d : Core) → after_opening c ≡ after_opening d → IsDeedOf c deed → IsDeedOf d deed
+deed_alike (Accepts i e v s b) c d is h = h ∙ ap (λ (k : Core). acceptance k.place k.view b) is
+deed_alike (Prepares i e v s digest) c d is h = (
+  h.0 ∙ ap (λ (k : Core). preparation k.place k.view digest) is,
+  ap (λ (k : Core). option_map block_hash k.view.accepted) (sym is) ∙ h.1,
+)
+deed_alike (Delivers i b proof) c d is h = h ∙ ap (λ (k : Core). k.view.me) is
+deed_alike (Leaves i e v) c d is h = (
+  h.0 ∙ ap (λ (k : Core). Leaves k.view.me k.place.config.number v) is,
+  subst (λ n. n ≤ v) (ap (λ (k : Core). k.view.left) is) h.1,
+)
+deed_alike (Enters i e v x choice) c d is h = (
+  h.0 ∙ ap (λ (k : Core). Enters k.view.me k.place.config.number v x choice) is,
+  subst (λ n. n < v) (ap (λ (k : Core). k.view.view) is) h.1,
+)
+
+-- an entry that is no deed changes nothing that an opening finds
+pub other_alike : (entry : Entry) (c d : Core) → map Did (deeds_of (entry ∷ [])) ≡ []
+    → after_opening c ≡ after_opening d → after_opening (after_entry entry c) ≡ after_opening d
+other_alike entry c d none is =
+    opening_finds (entry ∷ []) c ∙ ap (λ (l : List Entry). after_opening (after_entries l c)) none ∙ is
+
+deeds_alone : (entries : List Entry) (c d : Core) → after_opening c ≡ after_opening d → AllHaveDeeds entries c
+    → AreDeedsOf d (deeds_of entries)
+deeds_alone [] c d is have = tt
+deeds_alone (Opened ∷ entries) c d is have =
+    deeds_alone entries (after_entry Opened c) d (other_alike Opened c d refl is) have.1
+deeds_alone (Came event accepts ∷ entries) c d is have =
+    deeds_alone entries (after_entry (Came event accepts) c) d (other_alike (Came event accepts) c d refl is) have.1
+deeds_alone (Did deed ∷ entries) c d is have = (
+  deed_alike deed c d is have.0,
+  deeds_alone entries (after_deed deed c) (after_deed deed d) (done_alike deed c d is) have.1,
+)
+deeds_alone (Signed pledge accepts ∷ entries) c d is have =
+    deeds_alone entries (after_entry (Signed pledge accepts) c) d
+    (other_alike (Signed pledge accepts) c d refl is) have.1
+deeds_alone (Sent receivers message ∷ entries) c d is have = deeds_alone entries c d is have.1
 
 pub steps_have_deeds : StepsHaveDeeds
-unfolding step
-steps_have_deeds keys r event =
-    let begun : Step = begins the_ways keys (unlogged r) event in
-    let first : IsGood r.core begun = record { deeds = tt; same = came event (keys.accepts []) r.core } in
-    let good = rounds_good r.core keys 2 _ (own_good r.core event _ (repeats_good r.core keys event r.found begun first)) in
-    good.deeds
+steps_have_deeds keys core event = deeds_alone (step keys core event) core core refl (step_has keys core event)

@@ -14,18 +14,21 @@ use Rattle.bft_node.specs.declared.store.Store.{Store}
 -- until ledger and log are written to again, every crash opens to what a kept store holds
 abbrev pub KeptStoreOpens : Type 0
 KeptStoreOpens =
-    (accepts : Accepts) (store : Store) (state : State) → IsKept store state → IsChain accepts (config_of store) (held_of store).blocks
+    (accepts : Accepts) (store : Store) (state : State) → IsKept store state
+    → IsChain accepts (config_of store) (held_of store).blocks
     → (image : Image) → IsCrash state image → Opens accepts (config_of store) image (held_of store)
 
 -- it stays kept whatever becomes of the other file
 abbrev pub KeptStoreStays : Type 0
-KeptStoreStays = (store : Store) (one two : State) → IsKept store one → two 0 ≡ one 0 → two 2 ≡ one 2 → IsKept store two
+KeptStoreStays =
+    (store : Store) (one two : State) → IsKept store one → two 0 ≡ one 0 → two 2 ≡ one 2 → IsKept store two
 
 -- a run within some deeds, and then one within more deeds from what they leave, is one within all of them
 abbrev pub RunsGoOn : Type 0
 RunsGoOn =
     (accepts : Accepts) (c : Config) (first more : List Deed) (held : Held) (old mid new : List State)
-    → Went (Within accepts c first held) old mid → Went (Within accepts c more (with_deeds first held)) mid new
+    → Went (Within accepts c first held) old mid
+    → Went (Within accepts c more (with_deeds first held)) mid new
     → Went (Within accepts c (first ++ more) held) old new
 
 -- a run within some deeds is one within more

@@ -1,24 +1,40 @@
 -- The nodes of one world with their disks, and what an opening and a step make of one.
-use Rattle.std.specs.Prelude.{◌≡◌, ◌≢◌, ◌↔◌, ℕ, false, true, List, [], Option, Some, Result, Ok, Err, is_err, OnOk}
+use Rattle.std.specs.Prelude.{
+  ◌≡◌,
+  ◌≢◌,
+  ◌↔◌,
+  ℕ,
+  false,
+  true,
+  List,
+  Option,
+  Some,
+  Result,
+  Ok,
+  Err,
+  is_err,
+  OnOk,
+}
 use Rattle.gate_log.specs.Arms.{armed}
 use Rattle.gate_log.specs.Disk.{now}
 use Rattle.gate_log.specs.History.{states}
+use Rattle.gate_log.specs.Memory.{IsUncounted}
 use Rattle.gate_log.specs.Runs.{Went}
 use Rattle.gate_log.specs.declared.image.Image.{Image}
 use Rattle.gate_log.specs.declared.memory.MemDisk.{MemDisk}
 use Rattle.signer_edge.specs.Accepts.{Accepts as Acceptance}
 use Rattle.signer_edge.specs.Seals.{Seat, SealsOne, is_sealed}
 use Rattle.block_ledger.specs.Chains.{Entry as Stored, IsChain}
-use Rattle.node_model.specs.Cores.{Core, after_opening}
-use Rattle.node_model.specs.Entries.{Event}
-use Rattle.node_model.specs.Steps.{Keys}
+use Rattle.node_model.specs.Cores.{Core}
+use Rattle.node_model.specs.declared.event.Event.{Event}
 use Rattle.bft_node.specs.Crashes.{Image as Files}
+use Rattle.bft_node.specs.NodeOpenings.{IsFoundAgain, files_at}
 use Rattle.bft_node.specs.NodeFaults.{HasNodeCause, counts}
-use Rattle.bft_node.specs.NodeSteps.{TakesStep}
+use Rattle.bft_node.specs.NodeSteps.{TakesBy}
 use Rattle.bft_node.specs.Returning.{opened}
 use Rattle.bft_node.specs.Recovering.{Holds, Keeps}
 use Rattle.bft_node.specs.Running.{chain_of, state_of}
-use Rattle.bft_node.specs.Signings.{Grows, KeysFit, Signing, Signs, keys_after, statements_in}
+use Rattle.bft_node.specs.Signings.{Signing, Signs}
 use Rattle.bft_node.specs.Stores.{IsKept, OpensTo, StaysOpen, config_of, held_of}
 use Rattle.bft_node.specs.declared.fault.OpenFault.{OpenFault}
 use Rattle.bft_node.specs.declared.live.Out.{Out}
@@ -54,13 +70,11 @@ HoldsIn accepts l = Holds accepts l.node.running (now (states l.disk.history))
 
 -- the bytes of a disk's files
 abbrev pub files_of : MemDisk → Files
-files_of disk = λ file. (now (states disk.history) file).reads
+files_of disk = files_at (now (states disk.history))
 
 -- a node that was found again as it was, but for the vote messages that it kept
-pub record IsFound (accepts : Acceptance) (l : Lodged) (chain : List Stored) (core : Core) : Type 0 where
-  pub chain : chain_of l.node.running ≡ chain
-  pub state : state_of l.node.running ≡ after_opening core
-  pub holds : HoldsIn accepts l
+abbrev pub IsFound : Acceptance → Lodged → List Stored → Core → Type 0
+IsFound accepts l chain core = IsFoundAgain accepts l.node.running (now (states l.disk.history)) chain core
 
 -- A node as it is opened on what this disk holds.
 pub record IsOpenedOn (setup : Setup) (accepts : Acceptance) (disk : MemDisk) (l : Lodged) : Type 0 where
@@ -70,7 +84,8 @@ pub record IsOpenedOn (setup : Setup) (accepts : Acceptance) (disk : MemDisk) (l
   pub chain : IsChain accepts setup.genesis (chain_of l.node.running)
   pub state : state_of l.node.running ≡ opened setup.genesis setup.me (held_of l.node.running.store)
   pub value : OpensTo accepts setup.genesis (now (states disk.history)) (Ok l.node.running.store)
-  pub finds : (chain : List Stored) (core : Core) → Keeps accepts setup.genesis setup.me (files_of disk) chain core
+  pub finds : (chain : List Stored) (core : Core)
+      → Keeps accepts setup.genesis setup.me (files_of disk) chain core
       → IsFound accepts l chain core
   pub any_moment : Went (StaysOpen accepts setup.genesis (now (states disk.history))) (states disk.history)
       (states l.disk.history)
@@ -78,33 +93,48 @@ pub record IsOpenedOn (setup : Setup) (accepts : Acceptance) (disk : MemDisk) (l
 
 -- what `add` comes to: the node stands under its id, or the first fault is told
 abbrev pub Adds : Lodging → Lodging → Setup → Acceptance → MemDisk → Result (Unit {0}) OpenFault → Type 0
-Adds before after setup accepts disk (Ok _) = (l : Lodged) × IsOpenedOn setup accepts disk l × Becomes before after setup.me (Some l)
-Adds before after setup accepts disk (Err fault) = StaysAlike before after × OpensTo accepts setup.genesis (now (states disk.history)) (Err fault)
+Adds before after setup accepts disk (Ok _) =
+    (l : Lodged) × IsOpenedOn setup accepts disk l × Becomes before after setup.me (Some l)
+Adds before after setup accepts disk (Err fault) =
+    StaysAlike before after × OpensTo accepts setup.genesis (now (states disk.history)) (Err fault)
 
--- what the keys signed, by keys of the definition that say what the box did
-abbrev pub TakesBy : Lodged → Lodged → Event → Seat → Result Out NodeFault → List (Signing Seat) → Type 0
-TakesBy old new event before result signings =
-    (model : Keys) → KeysFit accepts_of model [] before signings → Grows accepts_of before signings
-    → TakesStep model old.node.running new.node.running event (statements_in signings) (accepts_of before)
-        (accepts_of (keys_after before signings)) result true (states old.disk.history) (states new.disk.history)
+-- what a step comes to by what the keys signed
+abbrev pub TakesSealed : Lodged → Lodged → Event → Seat → Result Out NodeFault → List (Signing Seat) → Type 0
+TakesSealed old new event before result signings =
+    TakesBy accepts_of before old.node.running new.node.running event result true (states old.disk.history)
+    (states new.disk.history) signings
 
 -- One step of a node over its disk.
 pub record IsStepOf (old new : Lodged) (event : Event) (before after : Seat) (result : Result Out NodeFault)
     : Type 0 where
   pub step : old.node.closed ≡ false
-      → Signs SealsOne result before after (TakesBy old new event before result)
+      → Signs SealsOne result before after (TakesSealed old new event before result)
   pub kept : OnOk result (IsKept new.node.running.store (now (states new.disk.history)))
   pub id : OnOk result (new.node.running.id ≡ old.node.running.id)
   pub config : OnOk result (config_of new.node.running.store ≡ config_of old.node.running.store)
   pub closed : (result ≡ Err fault_of.Closed) ↔ (old.node.closed ≡ true)
   pub nothing : old.node.closed ≡ true → (new.disk ≡ old.disk) × (after ≡ before)
   pub closes : new.node.closed ≡ is_err result
-  pub cause : old.node.closed ≡ false → HasNodeCause (counts old.disk.faults 0) (counts new.disk.faults 0) result
+  pub cause : old.node.closed ≡ false
+      → HasNodeCause (counts old.disk.faults 0) (counts new.disk.faults 0) result
 
 -- what `step` comes to
 abbrev pub StepsAt : Lodging → Lodging → ℕ → Event → Seat → Seat → Result Out NodeFault → Type 0
 StepsAt before after id event keys keys_then result =
-    (old : Lodged) → before id ≡ Some old → (new : Lodged) × IsStepOf old new event keys keys_then result × Becomes before after id (Some new)
+    (old : Lodged) → before id ≡ Some old
+    → (new : Lodged) × IsStepOf old new event keys keys_then result × Becomes before after id (Some new)
+
+-- A node with its disk after a read: the node is the same, the files and the arm of its disk too. So it is
+-- kept, and holds what it did, where it was and did.
+pub record IsRead (old new : Lodged) : Type 0 where
+  pub node : new.node ≡ old.node
+  pub disk : IsUncounted old.disk new.disk
+
+-- what a read of a node's disk may change
+abbrev pub ReadsAt : Lodging → Lodging → ℕ → Type 0
+ReadsAt before after id =
+    (old : Lodged) → before id ≡ Some old
+    → (new : Lodged) × IsRead old new × Becomes before after id (Some new)
 
 -- with its disk armed
 abbrev pub with_arm : ℕ → Image → Lodged → Lodged

@@ -1,17 +1,19 @@
 -- What a step of a node answers and leaves.
-use Rattle.std.specs.Prelude.{◌≡◌, ◌≤◌, ◌++◌, ℕ, Bool, List, None, length, map, IsTrue, Result, Ok, Err}
+use Rattle.std.specs.Prelude.{◌≡◌, ◌≤◌, ◌++◌, Bool, List, [], None, length, map, IsTrue, ℕ, Result, Ok, Err}
 use Rattle.gate_log.specs.Disk.{State, now}
 use Rattle.gate_log.specs.Runs.{Went}
 use Rattle.signer_edge.specs.Accepts.{Accepts as Acceptance}
 use Rattle.signer_edge.specs.Signing.{KeepsAccepted}
 use Rattle.node_model.specs.Cores.{after_entries}
-use Rattle.node_model.specs.Entries.{Entry, Event, deeds_of, facts_of, statements_of, stored_of}
+use Rattle.node_model.specs.Entries.{Entry, deeds_of, facts_of, statements_of, stored_of}
+use Rattle.node_model.specs.declared.event.Event.{Event}
 use Rattle.node_model.specs.Steps.{Keys, duty, step}
 use Rattle.bft_node.specs.Crashes.{Image, IsCrash}
 use Rattle.bft_node.specs.Making.{IsFront, done_in, sends_of, sent_of}
 use Rattle.bft_node.specs.NodeFaults.{HasLimit}
 use Rattle.bft_node.specs.Recovering.{Holds, KeepsFront, KeepsSigned}
 use Rattle.bft_node.specs.Running.{chain_of, state_of}
+use Rattle.bft_node.specs.Signings.{Grows, KeysFit, Signing, keys_after, statements_in}
 use Rattle.bft_node.specs.Stores.{held_of}
 use Rattle.bft_node.specs.declared.node_fault.NodeFault.{NodeFault}
 use Rattle.bft_node.specs.declared.live.Out.{Out}
@@ -37,17 +39,17 @@ abbrev pub Steps : Keys → Running → Running → List Entry → List (List �
 Steps keys old new made signed (Ok out) = IsStep keys old new made signed out
 Steps keys old new made signed (Err fault) = IsFront signed (statements_of made)
 
--- Where the node held what it did: at each moment every crash keeps it with a front of the step's entries, for
--- every judge who accepts at least what the keys did at the end.
+-- Where the node held what it did: at each moment every crash keeps it with a front of the step's entries,
+-- for every judge who accepts at least what the keys did at the end.
 abbrev pub StepsWithin : Running → List Entry → Acceptance → Acceptance → List State → List State → Type 0
 StepsWithin old made first accepts before after =
     Holds first old (now before) → (judge : Acceptance) → KeepsAccepted accepts judge
     → Went (λ state. (image : Image) → IsCrash state image → KeepsFront judge old made image) before after
 
--- And every crash after the step, whatever it answered, keeps a front of its entries of which the signatures are
--- those that were made.
-abbrev pub StepsLeave : Running → List Entry → List (List ℕ) → Acceptance → Acceptance → List State → List State
-    → Type 0
+-- And every crash after the step, whatever it answered, keeps a front of its entries of which the signatures
+-- are those that were made.
+abbrev pub StepsLeave : Running → List Entry → List (List ℕ) → Acceptance → Acceptance → List State
+    → List State → Type 0
 StepsLeave old made signed first accepts before after =
     Holds first old (now before) → (judge : Acceptance) → KeepsAccepted accepts judge
     → (image : Image) → IsCrash (now after) image → KeepsSigned judge old made signed image
@@ -55,17 +57,18 @@ StepsLeave old made signed first accepts before after =
 -- after a step that was done the node holds all of it
 abbrev pub StepsHold : Running → Running → Acceptance → Acceptance → List State → List State
     → Result Out NodeFault → Type 0
-StepsHold old new first accepts before after (Ok out) = Holds first old (now before) → Holds accepts new (now after)
+StepsHold old new first accepts before after (Ok out) =
+    Holds first old (now before) → Holds accepts new (now after)
 StepsHold old new first accepts before after (Err fault) = Unit {0}
 
--- The number or the length that a step needed, where that is told. One that was done needed no block of a number
--- above 2^62 - 1: the blocks are numbered from 0, so the next one has their count as its number.
+-- The number or the length that a step needed, where that is told. One that was done needed no block of a
+-- number above 2^62 - 1: the blocks are numbered from 0, so the next one has their count as its number.
 abbrev pub StepsLimit : Running → Running → List Entry → Bool → Result Out NodeFault → Type 0
 StepsLimit old new made tells (Ok out) = length (chain_of new) ≤ 4611686018427387903
 StepsLimit old new made tells (Err fault) = HasLimit tells (held_of old.store) (deeds_of made) fault
 
--- WHAT A STEP DOES: its answer, and what it leaves at each moment and at its end. What is said of crashes is said
--- of a disk that tells its content.
+-- WHAT A STEP DOES: its answer, and what it leaves at each moment and at its end. What is said of crashes is
+-- said of a disk that tells its content.
 pub record TakesStep (keys : Keys) (old new : Running) (event : Event) (signed : List (List ℕ))
     (first accepts : Acceptance) (result : Result Out NodeFault) (tells : Bool) (before after : List State)
     : Type 0 where
@@ -74,3 +77,12 @@ pub record TakesStep (keys : Keys) (old new : Running) (event : Event) (signed :
   pub leaves : IsTrue tells → StepsLeave old (step_from keys old event) signed first accepts before after
   pub holds : IsTrue tells → StepsHold old new first accepts before after result
   pub limit : StepsLimit old new (step_from keys old event) tells result
+
+-- So it is by any keys of the definition that say what these did and answered, where what they accepted stays
+-- so.
+abbrev pub TakesBy : {K : Type 0} → (K → Acceptance) → K → Running → Running → Event → Result Out NodeFault
+    → Bool → List State → List State → List (Signing K) → Type 0
+TakesBy accepts keys old new event result tells before after signings =
+    (model : Keys) → KeysFit accepts model [] keys signings → Grows accepts keys signings
+    → TakesStep model old new event (statements_in signings) (accepts keys)
+    (accepts (keys_after keys signings)) result tells before after

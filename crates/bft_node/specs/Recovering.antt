@@ -14,11 +14,11 @@ use Rattle.node_model.specs.Entries.{Entry, statements_of, stored_of}
 use Rattle.bft_node.specs.Crashes.{Image, IsCrash}
 use Rattle.bft_node.specs.Running.{chain_of, state_of}
 use Rattle.bft_node.specs.Standing.{Stands}
-use Rattle.bft_node.specs.Stores.{IsKept, config_of, held_of}
+use Rattle.bft_node.specs.Stores.{IsKept, StaysOpen, config_of, held_of}
 use Rattle.bft_node.specs.declared.live.Running.{Running}
 
--- Files that keep a chain and what a node did: the ledger's file stands for the chain, and an opening finds the
--- node as it was, but for the vote messages that it kept.
+-- Files that keep a chain and what a node did: the ledger's file stands for the chain, and an opening finds
+-- the node as it was, but for the vote messages that it kept.
 pub record Keeps (accepts : Acceptance) (c : Config) (me : ℕ) (image : Image) (chain : List Stored)
     (core : Core) : Type 0 where
   pub ledger : stands_for accepts c (image 2) ≡ Chain chain
@@ -33,17 +33,18 @@ pub record Holds (accepts : Acceptance) (r : Running) (state : State) : Type 0 w
   pub kept : IsKept r.store state
 
 -- Files that keep what a node had, and a front of the entries of a step that it began.
-pub record KeepsFront (accepts : Acceptance) (old : Running) (made : List Entry) (image : Image) : Type 0 where
+pub record KeepsFront (accepts : Acceptance) (old : Running) (made : List Entry) (image : Image)
+    : Type 0 where
   pub cut : ℕ
   pub some : cut ≤ length made
   pub keeps : Keeps accepts (config_of old.store) old.id image (chain_of old ++ stored_of (take cut made))
       (after_entries (take cut made) (state_of old))
 
 -- The same, where the statements that were signed are those of that front.
-pub record KeepsSigned (accepts : Acceptance) (old : Running) (made : List Entry) (signed : List (List ℕ))
-    (image : Image) : Type 0 where
+pub record KeepsSigned (accepts : Acceptance) (old : Running) (made : List Entry)
+    (statements : List (List ℕ)) (image : Image) : Type 0 where
   pub front : KeepsFront accepts old made image
-  pub signed : signed ≡ statements_of (take front.cut made)
+  pub signed : statements ≡ statements_of (take front.cut made)
 
 -- LAWS
 
@@ -65,3 +66,11 @@ abbrev pub HoldsOn : Type 0
 HoldsOn =
     (accepts judge : Acceptance) (r : Running) (one two : State) → Holds accepts r one
     → KeepsAccepted accepts judge → two 0 ≡ one 0 → two 2 ≡ one 2 → Holds judge r two
+
+-- what every crash of a disk keeps is kept by every crash while a node is opened on it
+abbrev pub OpeningsKeep : Type 0
+OpeningsKeep =
+    (accepts : Acceptance) (c : Config) (me : ℕ) (chain : List Stored) (core : Core) (before state : State)
+    → ((image : Image) → IsCrash before image → Keeps accepts c me image chain core)
+    → StaysOpen accepts c before state
+    → (image : Image) → IsCrash state image → Keeps accepts c me image chain core

@@ -8,7 +8,8 @@ use Rattle.bft_wal.specs.Fold.{is_accepted, tally_of, view_accepted}
 use Rattle.bft_wal.specs.declared.record.WalRecord.{WalRecord}
 use Rattle.block_ledger.specs.Chains.{genesis_entry}
 use Rattle.node_model.specs.Cores.{Core, after_deed, after_entries, after_opening, core_on}
-use Rattle.node_model.specs.Entries.{Deed, Accepts, Prepares, Delivers, Leaves, Enters, Event, deeds_of}
+use Rattle.node_model.specs.Entries.{Deed, Accepts, Prepares, Delivers, Leaves, Enters, deeds_of}
+use Rattle.node_model.specs.declared.event.Event.{Event}
 use Rattle.node_model.specs.Laws.{IsStanding}
 use Rattle.node_model.specs.Steps.{Keys, step}
 use Rattle.bft_node.specs.Held.{Held, with_deeds}
@@ -27,7 +28,8 @@ IsVoteBacked config height view records vote =
 -- Of those at this height none is of a view above this one, and what was prepared was accepted.
 pub record IsBacked (config height view : ℕ) (records : List WalRecord) : Type 0 where
   pub accepted : AllByRecursion (λ a. view_accepted a ≤ view) (tally_of config height records).accepted
-  pub prepared : AllByRecursion (IsVoteBacked config height view records) (tally_of config height records).prepared
+  pub prepared : AllByRecursion (IsVoteBacked config height view records)
+      (tally_of config height records).prepared
 
 -- An opening finds what the node has but for the vote messages that it keeps, and no record says what its
 -- place and view forbid.
@@ -71,7 +73,8 @@ DeedsKeepStanding =
 
 -- each deed of a step is one of a node that stands where it is done
 abbrev pub StepsHaveDeeds : Type 0
-StepsHaveDeeds = (keys : Keys) (core : Core) (event : Event) → AreDeedsOf core (deeds_of (step keys core event))
+StepsHaveDeeds =
+    (keys : Keys) (core : Core) (event : Event) → AreDeedsOf core (deeds_of (step keys core event))
 
 -- so a node whose deeds are held stands so after each front of a step
 abbrev pub StepsKeepStanding : Type 0
@@ -79,4 +82,4 @@ StepsKeepStanding =
     (c : Config) (me : ℕ) (held : Held) (keys : Keys) (core : Core) (event : Event) (cut : ℕ)
     → Stands c me held core
     → Stands c me (with_deeds (deeds_of (take cut (step keys core event))) held)
-        (after_entries (take cut (step keys core event)) core)
+    (after_entries (take cut (step keys core event)) core)

@@ -1,4 +1,5 @@
-//! A node: what it holds durable, its ledger and its log over one disk, what an opening makes of them, and its steps.
+//! A node: what it holds durable, its ledger and its log over one disk, what an opening makes of them, and
+//! its steps.
 #![tactic(auto)]
 
 mod acts;
@@ -28,10 +29,9 @@ mod tests;
 mod write;
 
 pub use fault::{OpenFault, StoreFault};
-pub use laws::{deeds_are_found, stored_deeds_stand};
+pub use laws::{deeds_are_found, nodes_are_found, stored_deeds_stand};
 pub use live::{Done, Out, Post, Setup};
 pub use member::Node;
-pub use node_model::Event;
 pub use node_fault::NodeFault;
 pub use node_model::Event;
 pub use nodes::Nodes;

@@ -4,9 +4,10 @@ ghost use Rattle.ord_types.specs.Genesis.{IsGenesisConfig};
 ghost use Rattle.gate_log.specs.Disk.{now};
 ghost use Rattle.gate_log.specs.History.{states};
 
-use crate::live::{Event, Out, Setup};
+use crate::live::{Out, Setup};
 use crate::{Node, NodeFault, OpenFault};
 use gate_log::MemDisk;
+use node_model::Event;
 use signer_edge::SealSeat;
 use std::alloc::Global;
 
@@ -31,7 +32,9 @@ impl Lodged {
         keys: &mut SealSeat,
     ) -> Result<Lodged, OpenFault>
         requires { IsGenesisConfig setup.now.genesis }
-        ensures opened { MatchResult result (IsOpenedOn setup.now (accepts_of keys.old) disk) (λ fault. OpensTo (accepts_of keys.old) setup.now.genesis (now (states disk.history)) (Err fault)) }
+        ensures opened { MatchResult result (IsOpenedOn setup.now (accepts_of keys.old) disk)
+            (λ fault.
+            OpensTo (accepts_of keys.old) setup.now.genesis (now (states disk.history)) (Err fault)) }
         ensures keys { keys.new ≡ keys.old }
     {
         let mut disk = disk;

@@ -1,5 +1,20 @@
 //! A node over a disk and its keys.
-ghost use Rattle.std.specs.Prelude.{◌≡◌, ◌≤◌, ◌↔◌, ℕ, Bool, true, false, is_err, [], IfOk, IsTrue, OnOk, Option, None, Err, if◌then◌else◌};
+ghost use Rattle.std.specs.Prelude.{
+  ◌≡◌,
+  ◌≤◌,
+  ◌↔◌,
+  ℕ,
+  true,
+  false,
+  is_err,
+  IfOk,
+  IsTrue,
+  OnOk,
+  Option,
+  None,
+  Err,
+  if◌then◌else◌,
+};
 ghost use Rattle.std.specs.Option.{ForSome};
 ghost use Rattle.ord_types.specs.Lengths.{FitsCert};
 ghost use Rattle.ord_types.specs.Genesis.{IsGenesisConfig};
@@ -10,18 +25,17 @@ ghost use Rattle.gate_log.specs.Runs.{Went};
 ghost use Rattle.bft_wal.specs.Fold.{durable_of};
 ghost use Rattle.block_ledger.specs.Chains.{IsChain};
 ghost use Rattle.view_model.specs.Acts.{may_propose};
-ghost use Rattle.node_model.specs.Restarts.{found_in};
-ghost use Rattle.node_model.specs.Steps.{Keys};
+ghost use Rattle.node_model.specs.Cores.{found_in};
 ghost use Rattle.view_core.specs.Places.{IsPlace};
 ghost use Rattle.bft_node.specs.NodeFaults.{HasNodeCause, counts};
-ghost use Rattle.bft_node.specs.NodeOpenings.{NodeOpens};
-ghost use Rattle.bft_node.specs.NodeSteps.{TakesStep};
+ghost use Rattle.bft_node.specs.NodeOpenings.{FindsAgain, NodeOpens};
+ghost use Rattle.bft_node.specs.NodeSteps.{TakesBy};
 ghost use Rattle.bft_node.specs.Returning.{accepted_in, is_prepared_in, opened, view_at};
-ghost use Rattle.bft_node.specs.Running.{IsReady, IsSound, as_found, event_of, place_of, state_of};
-ghost use Rattle.bft_node.specs.Signings.{Grows, KeysFit, Signs, keys_after, statements_in};
+ghost use Rattle.bft_node.specs.Running.{IsReady, IsSound, as_found, chain_of, place_of, state_of};
+ghost use Rattle.bft_node.specs.Signings.{Signs};
 ghost use Rattle.bft_node.specs.Stores.{IsKept, OpenAnswers, StaysOpen, config_of, held_of};
 
-use crate::live::{Event, Found, Out, Running, Setup};
+use crate::live::{Found, Out, Running, Setup};
 use crate::member::Node;
 use crate::node_fault::MOST_NUMBER;
 use crate::spelled::is_cert;
@@ -29,6 +43,7 @@ use crate::{NodeFault, OpenFault, Store};
 use bft_wal::Durable;
 use block_ledger::Ledger;
 use gate_log::Disk;
+use node_model::Event;
 use ord_types::{Block, Cert, List, NoMemory, Place, Vote, genesis_block};
 use signer_edge::{Signer, Verifier};
 use std::alloc::Global;
@@ -72,7 +87,8 @@ fn found_in(place: &Place, durable: Durable) -> Option<Found>
 
 // The newest acceptance is of this view.
 fn is_accepted_in(view: u64, votes: &List<Vote>) -> bool
-    ensures { (block : Option SomeBlock) → accepted_in view votes.now block ≡ (if result then block else None) }
+    ensures { (block : Option SomeBlock)
+        → accepted_in view votes.now block ≡ (if result then block else None) }
 {
     let votes = votes.as_slice();
     !votes.is_empty() && votes[0].view == view
@@ -156,14 +172,25 @@ impl Node {
         ensures open { IfOk result (λ node. node.closed ≡ false) }
         ensures config { IfOk result (λ node. config_of node.running.store ≡ setup.now.genesis) }
         ensures id { IfOk result (λ node. node.running.id ≡ setup.now.me) }
-        ensures chain { IfOk result (λ node. IsChain (K.accepts keys.old) setup.now.genesis (held_of node.running.store).blocks) }
+        ensures chain { IfOk result (λ node.
+            IsChain (K.accepts keys.old) setup.now.genesis (chain_of node.running)) }
 
-        // The node is what an opening makes of what the files stand for; or the first fault is told, of the ledger's file before the log's.
-        ensures state { IfOk result (λ node. state_of node.running ≡ opened setup.now.genesis setup.now.me (held_of node.running.store)) }
-        ensures value { IsTrue (D.tells disk.old) → NodeOpens (K.accepts keys.old) setup.now.genesis (now (D.moments disk.old)) result }
+        // The node is what an opening makes of what the files stand for; or the first fault is told, of the
+        // ledger's file before the log's.
+        ensures state { IfOk result (λ node.
+            state_of node.running ≡ opened setup.now.genesis setup.now.me (held_of node.running.store)) }
+        ensures value { IsTrue (D.tells disk.old)
+            → NodeOpens (K.accepts keys.old) setup.now.genesis (now (D.moments disk.old)) result }
+
+        // What the files keep of a node is found again, and held.
+        ensures finds { IsTrue (D.tells disk.old)
+            → FindsAgain (K.accepts keys.old) setup.now.genesis setup.now.me (now (D.moments disk.old))
+            (now (D.moments disk.new)) result }
 
         // A crash at any moment of the call opens to what a crash before it could open to.
-        ensures any_moment { IsTrue (D.tells disk.old) → Went (StaysOpen (K.accepts keys.old) setup.now.genesis (now (D.moments disk.old))) (D.moments disk.old) (D.moments disk.new) }
+        ensures any_moment { IsTrue (D.tells disk.old)
+            → Went (StaysOpen (K.accepts keys.old) setup.now.genesis (now (D.moments disk.old)))
+            (D.moments disk.old) (D.moments disk.new) }
         ensures keys { keys.new ≡ keys.old }
         ensures tells { D.tells disk.new ≡ D.tells disk.old }
         ensures later { D.faults disk.old ≤ D.faults disk.new }
@@ -178,8 +205,8 @@ impl Node {
         })
     }
 
-    /// Takes an event, and does all that is due. At `Ok` all that the step did is durable. A step that fails sends nothing,
-    /// and closes the node.
+    /// Takes an event, and does all that is due. At `Ok` all that the step did is durable. A step that fails
+    /// sends nothing, and closes the node.
     pub fn step<D: Disk, K: Signer + Verifier>(
         &mut self,
         event: Event,
@@ -187,13 +214,17 @@ impl Node {
         keys: &mut K,
     ) -> Result<Out, NodeFault>
         // the disk on which the node was opened, as its last call left it
-        requires { IsTrue (D.tells disk.old) → self.old.closed ≡ false → IsKept self.old.running.store (now (D.moments disk.old)) }
+        requires { IsTrue (D.tells disk.old) → self.old.closed ≡ false
+            → IsKept self.old.running.store (now (D.moments disk.old)) }
 
-        ensures kept { IsTrue (D.tells disk.new) → OnOk result (IsKept self.new.running.store (now (D.moments disk.new))) }
+        ensures kept { IsTrue (D.tells disk.new)
+            → OnOk result (IsKept self.new.running.store (now (D.moments disk.new))) }
 
-        // By keys of the definition that say what these did and answered. What the keys signed is a list of signings.
-        ensures step { self.old.closed ≡ false → Signs K.sign_gives result keys.old keys.new (λ signings. (model : Keys) → KeysFit K.accepts model [] keys.old signings → Grows K.accepts keys.old signings
-            → TakesStep model self.old.running self.new.running (event_of event) (statements_in signings) (K.accepts keys.old) (K.accepts (keys_after keys.old signings)) result (D.tells disk.old) (D.moments disk.old) (D.moments disk.new)) }
+        // By keys of the definition that say what these did and answered. What the keys signed is a list of
+        // signings.
+        ensures step { self.old.closed ≡ false → Signs K.sign_gives result keys.old keys.new
+            (TakesBy K.accepts keys.old self.old.running self.new.running event result (D.tells disk.old)
+            (D.moments disk.old) (D.moments disk.new)) }
 
         // Closed is answered by a closed node, which does nothing; any failure closes it.
         ensures closed { (result ≡ Err NodeFault.Closed) ↔ (self.old.closed ≡ true) }
@@ -203,7 +234,9 @@ impl Node {
         ensures id { OnOk result (self.new.running.id ≡ self.old.running.id) }
         ensures tells { D.tells disk.new ≡ D.tells disk.old }
         ensures later { (D.faults disk.old ≤ D.faults disk.new) × (K.faults keys.old ≤ K.faults keys.new) }
-        ensures cause { self.old.closed ≡ false → HasNodeCause (counts (D.faults disk.old) (K.faults keys.old)) (counts (D.faults disk.new) (K.faults keys.new)) result }
+        ensures cause { self.old.closed ≡ false
+            → HasNodeCause (counts (D.faults disk.old) (K.faults keys.old))
+            (counts (D.faults disk.new) (K.faults keys.new)) result }
     {
         if self.closed {
             return Err(NodeFault::Closed);
@@ -217,7 +250,9 @@ impl Node {
 
     /// Whether it may propose now, whatever is offered.
     pub fn may_propose(&self) -> bool
-        ensures { IsTrue result ↔ ((self.now.closed ≡ false) × IsTrue (may_propose (place_of self.now.running) self.now.running.view)) }
+        ensures { IsTrue result
+            ↔ ((self.now.closed ≡ false)
+            × IsTrue (may_propose (place_of self.now.running) self.now.running.view)) }
     {
         !self.closed
             && self
@@ -236,7 +271,8 @@ impl Node {
     /// What its log leaves at the ledger's place.
     pub fn durable(&self) -> Result<Durable, NoMemory>
         ensures { let place = place_of self.now.running in
-            IfOk result (λ durable. durable ≡ durable_of place.config.number place.height (held_of self.now.running.store).records) }
+            IfOk result (λ durable.
+            durable ≡ durable_of place.config.number place.height (held_of self.now.running.store).records) }
     {
         let place = self.running.store.ledger.place();
         self.running

@@ -2,9 +2,9 @@ ghost use Rattle.std.specs.Prelude.{IfOk};
 ghost use Rattle.ord_types.specs.Genesis.{IsGenesisConfig};
 
 use crate::fixtures::{Quiet, crashed, empty};
-use crate::{Node, Setup};
+use crate::{Event, Node, NodeFault, Out, Setup};
 use gate_log::Image;
-use ord_types::{Batch, Config, Kind, List, Mode, NoMemory};
+use ord_types::{Batch, Bytes, Config, Kind, List, Mode, NoMemory, ReqId, ReqKind, Request};
 use signer_edge::{SealBox, SealSeat};
 use std::alloc::Global;
 use std::test::Fail;
@@ -44,6 +44,74 @@ fn opened(
     }
 }
 
+// The request 7:1, so many times.
+fn offer(alloc: Global, count: u32) -> Result<List<Request>, NoMemory> {
+    let mut offer = List::new(alloc);
+    for _request in 0..count {
+        offer.push(Request {
+            kind: ReqKind::Ordinary,
+            id: ReqId {
+                client: 7,
+                serial: 1,
+            },
+            payload: Bytes::from_slice(alloc, b"abc")?,
+        })?;
+    }
+    Ok(offer)
+}
+
+// How many facts, messages and deliveries a step brought.
+#[derive(Clone, Copy, Debug, PartialEq, Eq)]
+struct Brought {
+    facts: usize,
+    sends: usize,
+    done: usize,
+}
+
+fn counted(out: Out) -> Brought {
+    Brought {
+        facts: out.facts.len(),
+        sends: out.sends.len(),
+        done: out.done.len(),
+    }
+}
+
+fn ticked(
+    alloc: Global,
+    node: &mut Node,
+    count: u32,
+    quiet: &mut Quiet,
+    seat: &mut SealSeat,
+) -> Result<Result<Brought, NodeFault>, Fail> {
+    let offer = offer(alloc, count)?;
+    match node.step(Event::Tick { offer }, quiet, seat) {
+        Ok(out) => Ok(Ok(counted(out))),
+        Err(fault) => Ok(Err(fault)),
+    }
+}
+
+// What a member alone brings that still has so many deeds to do of an acceptance, a preparation and a
+// delivery.
+fn deeds(count: usize) -> Brought {
+    Brought {
+        facts: count,
+        sends: 0,
+        done: count.min(1),
+    }
+}
+
+// How many of the three deeds at number 1 it finds.
+fn found(node: &Node) -> Result<usize, NoMemory> {
+    if node.ledger().height() == 2 {
+        return Ok(3);
+    }
+    let durable = node.durable()?;
+    if durable.prepared.is_some() {
+        return Ok(2);
+    }
+    Ok(durable.accepted.len().min(1))
+}
+
 #[test]
 fn a_node_opens_again(rt: HostRuntime) -> Result<(), Fail> {
     let alloc = rt.alloc();
@@ -60,5 +128,137 @@ fn a_node_opens_again(rt: HostRuntime) -> Result<(), Fail> {
     let node = opened(alloc, &setup, &mut left, &mut seat)?;
     assert!(rt; node.may_propose());
     assert_eq!(rt; node.ledger().height(), 1);
+    Ok(())
+}
+
+#[test]
+fn a_member_alone_delivers(rt: HostRuntime) -> Result<(), Fail> {
+    let alloc = rt.alloc();
+    let setup = Setup {
+        me: 7,
+        genesis: config_of_one(alloc)?,
+    };
+    let mut quiet = empty(alloc)?;
+    let mut seat = SealBox::new(alloc)?.seat(7);
+    let mut node = opened(alloc, &setup, &mut quiet, &mut seat)?;
+    assert_eq!(rt;
+        ticked(alloc, &mut node, 1, &mut quiet, &mut seat)?,
+        Ok(deeds(3))
+    );
+    assert_eq!(rt; found(&node)?, 3);
+    let mut left = crashed(quiet, Image::Undo)?;
+    let mut node = opened(alloc, &setup, &mut left, &mut seat)?;
+    assert_eq!(rt; found(&node)?, 3);
+    assert_eq!(rt;
+        ticked(alloc, &mut node, 0, &mut left, &mut seat)?,
+        Ok(deeds(0))
+    );
+    Ok(())
+}
+
+// The images of a stopped call, and whether the gate of an entry that was written is open in them.
+const IMAGES: [(Image, bool); 3] = [
+    (Image::Keep, true),
+    (Image::Undo, false),
+    (Image::Fill(0xff), true),
+];
+
+// How many deeds stand after a stop at this counted call of a step. Each takes four: it stands where the third,
+// that opens its gate, was made, and in a stop at it or behind it where the image opens the gate.
+fn standing(call: u32, opens: bool) -> usize {
+    let before = (call - 1) / 4;
+    let within = (call - 1) % 4;
+    let more = within >= 2 && opens;
+    before as usize + usize::from(more)
+}
+
+// What a step came to whose disk stopped, and the next one, and the disk that it leaves.
+#[derive(Drop)]
+struct Stopped {
+    quiet: Quiet,
+    first: Result<Brought, NodeFault>,
+    second: Result<Brought, NodeFault>,
+    may_propose: bool,
+}
+
+fn stop(
+    alloc: Global,
+    setup: &Setup,
+    call: u32,
+    image: Image,
+    seat: &mut SealSeat,
+) -> Result<Stopped, Fail>
+    requires { IsGenesisConfig setup.now.genesis }
+{
+    let mut quiet = empty(alloc)?;
+    let mut node = opened(alloc, setup, &mut quiet, seat)?;
+    quiet.disk.arm(call, image);
+    let first = ticked(alloc, &mut node, 1, &mut quiet, seat)?;
+    let second = ticked(alloc, &mut node, 1, &mut quiet, seat)?;
+    Ok(Stopped {
+        quiet,
+        first,
+        second,
+        may_propose: node.may_propose(),
+    })
+}
+
+// How many deeds a node finds that is opened on a disk, what its first tick brings with nothing offered, and
+// the height in the end, with a request offered where nothing was found.
+#[derive(Clone, Copy, Debug, PartialEq, Eq)]
+struct Again {
+    found: usize,
+    first: Result<Brought, NodeFault>,
+    height: u64,
+}
+
+fn open_again(
+    alloc: Global,
+    setup: &Setup,
+    left: &mut Quiet,
+    seat: &mut SealSeat,
+) -> Result<Again, Fail>
+    requires { IsGenesisConfig setup.now.genesis }
+{
+    let mut node = opened(alloc, setup, left, seat)?;
+    let found = found(&node)?;
+    let first = ticked(alloc, &mut node, 0, left, seat)?;
+    if found == 0 {
+        let _ = ticked(alloc, &mut node, 1, left, seat)?;
+    }
+    Ok(Again {
+        found,
+        first,
+        height: node.ledger().height(),
+    })
+}
+
+#[test]
+fn a_node_that_failed_is_closed(rt: HostRuntime) -> Result<(), Fail> {
+    let alloc = rt.alloc();
+    let setup = Setup {
+        me: 7,
+        genesis: config_of_one(alloc)?,
+    };
+    for (image, opens) in IMAGES {
+        for call in 1..=12 {
+            let mut seat = SealBox::new(alloc)?.seat(7);
+            let stopped = stop(alloc, &setup, call, image, &mut seat)?;
+            assert_eq!(rt; stopped.first, Err(NodeFault::Disk));
+            assert_eq!(rt; stopped.second, Err(NodeFault::Closed));
+            assert!(rt; !stopped.may_propose);
+            let mut left = crashed(stopped.quiet, image)?;
+            let found = standing(call, opens);
+            let rest = if found == 0 { 0 } else { 3 - found };
+            assert_eq!(rt;
+                open_again(alloc, &setup, &mut left, &mut seat)?,
+                Again {
+                    found,
+                    first: Ok(deeds(rest)),
+                    height: 2,
+                }
+            );
+        }
+    }
     Ok(())
 }

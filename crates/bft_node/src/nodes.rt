@@ -2,14 +2,24 @@
 ghost use Rattle.std.specs.Prelude.{◌≡◌, None, Some, OnOk, is_some, true, option_map, slice_get, ℕ};
 ghost use Rattle.ord_types.specs.Genesis.{IsGenesisConfig};
 ghost use Rattle.block_ledger.specs.Answers.{GivesBlock};
-ghost use Rattle.block_ledger.specs.Ledgers.{blocks_of};
-ghost use Rattle.bft_node.specs.Lodgings.{Adds, Becomes, IsKeptIn, Lodging, StaysAlike, StepsAt, accepts_of, with_arm};
+ghost use Rattle.bft_node.specs.Lodgings.{
+  Adds,
+  Becomes,
+  IsKeptIn,
+  Lodging,
+  ReadsAt,
+  StepsAt,
+  accepts_of,
+  with_arm,
+};
+ghost use Rattle.bft_node.specs.Running.{chain_of};
 ghost use Rattle.bft_node.specs.declared.lodged.Lodged.{Lodged as SomeLodged};
 
-use crate::live::{Event, Out, Setup};
+use crate::live::{Out, Setup};
 use crate::{Node, NodeFault, OpenFault};
 use block_ledger::LedgerFault;
 use gate_log::{Image, MemDisk};
+use node_model::Event;
 use ord_types::{Block, NoMemory, Proof};
 use signer_edge::SealSeat;
 use std::alloc::Global;
@@ -38,10 +48,12 @@ pub trait Nodes {
         requires kept { (l : SomeLodged) → at self.old node ≡ Some l → IsKeptIn l }
         ensures { StepsAt (at self.old) (at self.new) node event keys.old keys.new result };
 
-    /// Arms the disk of a node: it stops at this counted call from here, counted from 1, and leaves this image.
+    /// Arms the disk of a node: it stops at this counted call from here, counted from 1, and leaves this
+    /// image.
     fn arm(&mut self, node: u32, call: u32, image: Image)
         requires { is_some (at self.old node) ≡ true }
-        ensures { Becomes (at self.old) (at self.new) node (option_map (with_arm call image) (at self.old node)) };
+        ensures { Becomes (at self.old) (at self.new) node
+            (option_map (with_arm call image) (at self.old node)) };
 
     /// Takes a node away. The answer is its disk as it stands.
     fn stop(&mut self, node: u32) -> MemDisk
@@ -57,6 +69,7 @@ pub trait Nodes {
     /// The block of a number in the ledger of a node, with its proof, if the ledger has it.
     fn get(&mut self, node: u32, number: u64) -> Result<Option<(Block, Proof)>, LedgerFault>
         requires { is_some (at self.old node) ≡ true }
-        ensures value { (l : SomeLodged) → at self.old node ≡ Some l → GivesBlock (slice_get (blocks_of l.node.running.store.ledger) number) result }
-        ensures same { StaysAlike (at self.old) (at self.new) };
+        ensures value { (l : SomeLodged) → at self.old node ≡ Some l
+            → GivesBlock (slice_get (chain_of l.node.running) number) result }
+        ensures reads { ReadsAt (at self.old) (at self.new) node };
 }

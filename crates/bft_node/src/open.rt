@@ -49,8 +49,8 @@ impl From<LogFault> for OpenFault {
 }
 
 impl Store {
-    /// Opens the ledger of the chain that begins with this genesis block, and then the log. An absent or empty ledger gets the
-    /// genesis block, an absent log is made new.
+    /// Opens the ledger of the chain that begins with this genesis block, and then the log. An absent or
+    /// empty ledger gets the genesis block, an absent log is made new.
     pub fn open<D: Disk, V: Verifier>(
         alloc: Global,
         disk: &mut D,
@@ -59,9 +59,11 @@ impl Store {
     ) -> Result<Store, OpenFault>
         requires { IsSomeGenesis genesis.now }
 
-        ensures kept { IsTrue (D.tells disk.old) → IfOk result (λ store. IsKept store (now (D.moments disk.new))) }
+        ensures kept { IsTrue (D.tells disk.old)
+            → IfOk result (λ store. IsKept store (now (D.moments disk.new))) }
         ensures config { IfOk result (λ store. IsGenesis (config_of store) genesis.now) }
-        ensures chain { IfOk result (λ store. IsChain (V.accepts verifier.now) (config_of store) (held_of store).blocks) }
+        ensures chain { IfOk result (λ store.
+            IsChain (V.accepts verifier.now) (config_of store) (held_of store).blocks) }
 
         // Of the ledger's faults the first is told, and the log's only where the ledger has none.
         ensures value { (c : FirstConfig) → IsGenesis c genesis.now → IsTrue (D.tells disk.old)
@@ -69,7 +71,8 @@ impl Store {
 
         // A crash at any moment of the call opens to what a crash before it could open to.
         ensures any_moment { (c : FirstConfig) → IsGenesis c genesis.now → IsTrue (D.tells disk.old)
-            → Went (StaysOpen (V.accepts verifier.now) c (now (D.moments disk.old))) (D.moments disk.old) (D.moments disk.new) }
+            → Went (StaysOpen (V.accepts verifier.now) c (now (D.moments disk.old))) (D.moments disk.old)
+            (D.moments disk.new) }
         ensures tells { D.tells disk.new ≡ D.tells disk.old }
         ensures later { D.faults disk.old ≤ D.faults disk.new }
         ensures cause { OpenAnswers (D.tells disk.old) (D.faults disk.old) (D.faults disk.new) result }

@@ -1,12 +1,13 @@
 //! The nodes of one world in a plain map.
 ghost use Rattle.std.specs.Prelude.{◌≡◌, None, ℕ};
 
-use crate::live::{Event, Out, Setup};
+use crate::live::{Out, Setup};
 use crate::lodged::Lodged;
 use crate::nodes::Nodes;
 use crate::{Node, NodeFault, OpenFault};
 use block_ledger::LedgerFault;
 use gate_log::{Image, MemDisk};
+use node_model::Event;
 use ord_types::{Block, Proof};
 use signer_edge::SealSeat;
 use std::alloc::Global;

@@ -29,7 +29,8 @@ enum Deed {
 
 // Whether it is a BFT configuration whose members can be counted.
 fn is_bft(config: &Config) -> bool
-    ensures { result ≡ true → (1 ≤ length config.now.members) × (length config.now.members ≤ 31) × (is_raft config.now ≡ false) }
+    ensures { result ≡ true → (1 ≤ length config.now.members) × (length config.now.members ≤ 31)
+        × (is_raft config.now ≡ false) }
 {
     let members = config.members.len();
     match config.kind {
@@ -47,7 +48,8 @@ fn may_come<V: Verifier>(alloc: Global, place: &Place, block: &Block, verifier: 
 fn is_good<V: Verifier>(config: &Config, block: &Block, cert: &Cert, verifier: &V) -> bool
     requires some { 1 ≤ length config.now.members }
     requires few { length config.now.members ≤ 31 }
-    ensures { result ≡ is_good_cert (V.accepts verifier.now) config.now block.now.header.number (block_hash_of block.now) cert.now }
+    ensures { result
+        ≡ is_good_cert (V.accepts verifier.now) config.now block.now.header.number (block_hash_of block.now) cert.now }
 {
     let hash = block_hash(&block.header);
     check_cert(config, block.header.number, &hash, cert, verifier).is_ok()
@@ -61,7 +63,8 @@ fn is_next<V: Verifier>(
     cert: &Cert,
     verifier: &V,
 ) -> bool
-    ensures { result ≡ true → next_refusal (V.accepts verifier.now) place.now (block.now, Bft cert.now) ≡ None }
+    ensures { result ≡ true
+        → next_refusal (V.accepts verifier.now) place.now (block.now, Bft cert.now) ≡ None }
 {
     if !is_bft(&place.config) {
         return false;

@@ -1,4 +1,4 @@
-use Rattle.bft_node.proofs.GoingOn.{begins_standing, deeds_stand, opens_as_model, steps_keep_standing}
+use Rattle.bft_node.proofs.GoingOn.{begins_standing, deeds_stand, steps_keep_standing}
 use Rattle.bft_node.proofs.StepDeeds.{steps_have_deeds}
 use Rattle.bft_node.proofs.laws.deeds_are_found.Goals as goal
 
@@ -7,9 +7,6 @@ returns-clause-first c = begins_standing
 
 pub returns-clause-deeds : goal.returns-clause-deeds
 returns-clause-deeds c = deeds_stand
-
-pub returns-clause-model : goal.returns-clause-model
-returns-clause-model c = opens_as_model
 
 pub returns-clause-done : goal.returns-clause-done
 returns-clause-done c = steps_have_deeds

@@ -5,7 +5,7 @@ use Rattle.ord_types.specs.declared.values.Place.{Place}
 use Rattle.view_core.specs.Places.{IsPlace}
 use Rattle.bft_wal.specs.Fold.{durable_of}
 use Rattle.bft_wal.proofs.Opens.{no_value}
-use Rattle.node_model.specs.Restarts.{found_in}
+use Rattle.node_model.specs.Cores.{found_in}
 use Rattle.bft_node.specs.Returning.{view_at}
 use Rattle.bft_node.specs.Stores.{held_of}
 use Rattle.bft_node.specs.declared.live.Running.{Running}

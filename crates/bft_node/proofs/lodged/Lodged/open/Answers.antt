@@ -11,6 +11,7 @@ returns-clause-opened c =
       chain = node.chain;
       state = node.state;
       value = node.value refl;
+      finds = node.finds refl;
       any_moment = c.open.ensures.any_moment refl;
       kept = node.ready.kept refl;
     }

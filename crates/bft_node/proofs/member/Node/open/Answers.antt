@@ -1,10 +1,12 @@
 use Rattle.std.proofs.Common.{sym, ◌∙◌, ap, subst}
 use Rattle.ord_types.specs.declared.values.Config.{Config}
-use Rattle.gate_log.specs.Disk.{now}
+use Rattle.gate_log.specs.Disk.{State, now}
 use Rattle.block_ledger.specs.Chains.{IsChain}
 use Rattle.bft_wal.proofs.Opens.{still}
 use Rattle.bft_node.specs.Stores.{IsKept, config_of, held_of}
 use Rattle.bft_node.specs.declared.store.Store.{Store}
+use Rattle.bft_node.specs.declared.live.Running.{Running}
+use Rattle.bft_node.proofs.Recoverings.{found_again}
 use Rattle.bft_node.proofs.OpenLemmas.{opened_on, opens_moved, state_moved}
 use Rattle.bft_node.proofs.member.Node.open.Goals as goal
 
@@ -38,6 +40,16 @@ pub returns-clause-value : goal.returns-clause-value
 returns-clause-value g c = λ t.
     opens_moved _ c.args.setup.now.genesis (now (g.D.Disk.moments c.args.disk.now)) c.in_ok-store.store c.in_ok-running.running.store c.in_ok-running.ensures.store
     (c.in_ok-store.ensures.value c.args.setup.now.genesis (record { config = c.requires; block = c.in_ok-genesis.ensures.block }) t)
+
+pub returns-clause-finds : goal.returns-clause-finds
+returns-clause-finds g c = λ t.
+    let genesis : Config = c.args.setup.now.genesis in
+    let running : Running = c.in_ok-running.running in
+    let after : State = now (g.D.Disk.moments c.open.new.disk) in
+    found_again (g.K.Verifier.accepts c.args.keys.now) genesis c.args.setup.now.me
+    (now (g.D.Disk.moments c.args.disk.now)) after running c.in_ok-running.ensures.id
+    (returns-clause-config g c) (returns-clause-chain g c) (returns-clause-state g c) (returns-clause-value g c t)
+    (subst (λ (s : Store). IsKept s after) (sym c.in_ok-running.ensures.store) (c.in_ok-store.ensures.kept t))
 
 pub returns-clause-any_moment : goal.returns-clause-any_moment
 returns-clause-any_moment g c = c.open.ensures.any_moment c.args.setup.now.genesis (record { config = c.requires; block = c.in_ok-genesis.ensures.block })
