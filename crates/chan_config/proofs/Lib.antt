@@ -2,3 +2,4 @@ pub mod ConfigLemmas
 pub mod RequestLaws
 pub mod BlockLaws
 pub mod Fitting
+pub mod PlaceLaws
