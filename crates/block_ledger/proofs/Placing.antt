@@ -4,7 +4,7 @@ use Rattle.ord_types.specs.Genesis.{genesis_block}
 use Rattle.ord_types.specs.declared.values.Block.{Block}
 use Rattle.ord_types.specs.declared.values.Config.{Config}
 use Rattle.chan_config.specs.Blocks.{change_in, config_at, config_or}
-pub use Rattle.chan_config.proofs.ConfigLemmas.{config_stays}
+pub use Rattle.chan_config.proofs.PlaceLaws.{config_stays}
 use Rattle.block_ledger.specs.Chains.{Entry, blocks_in, genesis_entry}
 use Rattle.block_ledger.specs.Places.{first_place, next_place, place_after, start_after, start_behind, tip_after}
 

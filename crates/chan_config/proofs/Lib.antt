@@ -1,4 +1,3 @@
-pub mod ConfigLemmas
 pub mod RequestLaws
 pub mod BlockLaws
 pub mod Fitting

@@ -3,7 +3,7 @@ use Rattle.std.proofs.Common.{◌≡◌, ℕ, zero, suc, ◌≤◌, ◌<◌, Lis
 use Rattle.std.proofs.lemmas.Bool.{cases_lt}
 use Rattle.std.proofs.lemmas.List.{get_or_append_left, get_or_push, take-append-le, length-append}
 use Rattle.std.proofs.Math.Seq.{take-append_seam}
-pub use Rattle.chan_config.proofs.ConfigLemmas.{config_stays}
+pub use Rattle.chan_config.proofs.PlaceLaws.{config_stays}
 use Rattle.safety_model.specs.Blocks.{Block, Config, config_at}
 use Rattle.safety_model.specs.Facts.{Fact, Proof, History, Stands}
 use Rattle.safety_model.specs.declared.fact.Fact.TheVariants.{Delivered}
