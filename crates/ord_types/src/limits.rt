@@ -9,5 +9,8 @@ pub const MOST_MEMBERS: usize = 31;
 /// The most requests of a block.
 pub const MOST_REQUESTS: usize = 1_000;
 
+/// The most headers of one reply to a question for headers.
+pub const MOST_HEADERS: usize = 1_000;
+
 /// The most bytes of a request's payload.
 pub const MOST_PAYLOAD: usize = 65_536;

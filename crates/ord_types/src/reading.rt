@@ -35,8 +35,8 @@ ghost use Rattle.std.specs.Int.{w8, w32};
 ghost use Rattle.ord_types.specs.Members.{is_in};
 
 use crate::fault::Halt;
-use crate::lists::List;
 use crate::limits::{MOST_MEMBERS, MOST_NUMBER, MOST_PAYLOAD, MOST_REQUESTS};
+use crate::lists::List;
 use crate::reader::{Reader, bad};
 use crate::values::{
     Batch, Block, Cert, Config, Header, Kind, Last, Meta, Mode, Proof, Report, ReqId, ReqKind,
