@@ -4,6 +4,7 @@ use Rattle.ord_types.specs.declared.values.Place.{Place}
 use Rattle.ord_types.specs.declared.values.Sig.{Sig}
 use Rattle.signer_edge.specs.Accepts.{Accepts}
 use Rattle.signer_edge.specs.Statements.{commit_text}
+use Rattle.bft_wire.specs.declared.message.Message.{Message}
 use Rattle.bft_wire.specs.declared.message.Message.TheVariants as wire
 use Rattle.view_model.specs.declared.act.Act.{Act}
 use Rattle.view_model.specs.declared.letter.VoteMessage.TheVariants as vote_of
@@ -11,8 +12,10 @@ use Rattle.view_model.specs.declared.letter.Letter.{Letter}
 use Rattle.view_model.specs.Acts.{View}
 use Rattle.view_model.specs.Answers.{after_vote, at_place, vote_answer}
 use Rattle.view_model.specs.Letters.{Commit}
-use Rattle.node_model.specs.Steps.{commit_message, to_all}
-use Rattle.bft_node.specs.Making.{IsFront, sent_of, text_of}
+use Rattle.node_model.specs.Entries.{others}
+use Rattle.node_model.specs.Entries as entries
+use Rattle.node_model.specs.Steps.{commit_message}
+use Rattle.bft_node.specs.Making.{IsFront, Sent, sends_of, sent_of}
 use Rattle.bft_node.specs.Running.{place_of}
 use Rattle.bft_node.specs.Signings.{Signing, statements_in}
 use Rattle.bft_node.specs.declared.live.Out.{Out}
@@ -33,6 +36,11 @@ pub record Votes (accepts : Accepts) (place : Place) (before : View) (letter : L
   pub answer : told ≡ vote_answer accepts place (at_place place before) letter
   pub after : left ≡ after_vote accepts place before letter
 
+-- what these messages to all others send
+abbrev pub sent_to_others : Running → List Message → List Sent
+sent_to_others r messages =
+    sends_of (map (λ m. entries.Sent (others (place_of r).config.members r.id) m) messages)
+
 -- the one signing, and the Commit of it to all; it counts as any other
 pub record Commits {K : Type 0} (digest : List ℕ) (told : Act) (old new : Running) (accepts : Accepts) (keys : K) (signings : List (Signing K)) (before after : Out) : Type 0 where
   pub sig : Sig
@@ -41,7 +49,8 @@ pub record Commits {K : Type 0} (digest : List ℕ) (told : Act) (old new : Runn
   pub store : new.store ≡ old.store
   pub found : new.found ≡ old.found
   pub votes : Votes accepts (place_of old) old.view (own_letter old.id (commit_at old digest sig)) told new.view
-  pub sends : map sent_of after.sends ≡ map sent_of before.sends ++ map text_of (to_all (place_of old).config.members old.id (wire.Commit (commit_at old digest sig)))
+  pub sends : map sent_of after.sends
+      ≡ map sent_of before.sends ++ sent_to_others old (wire.Commit (commit_at old digest sig) ∷ [])
   pub facts : after.facts ≡ before.facts
   pub done : after.done ≡ before.done
 

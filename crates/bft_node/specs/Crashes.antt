@@ -5,7 +5,7 @@ use Rattle.gate_log.specs.Disk.{State, MayLeave}
 use Rattle.signer_edge.specs.Accepts.{Accepts}
 use Rattle.bft_wal.specs.Opening.{opens_as}
 use Rattle.block_ledger.specs.Reading.{Chain, stands_for}
-use Rattle.node_model.specs.Deeds.{Deed}
+use Rattle.node_model.specs.Entries.{Deed}
 use Rattle.bft_node.specs.Held.{Held, with_deeds}
 
 -- the bytes of each file

@@ -5,7 +5,7 @@ use Rattle.gate_log.specs.Disk.{State}
 use Rattle.gate_log.specs.Runs.{Went}
 use Rattle.signer_edge.specs.Accepts.{Accepts}
 use Rattle.block_ledger.specs.Chains.{IsChain}
-use Rattle.node_model.specs.Deeds.{Deed}
+use Rattle.node_model.specs.Entries.{Deed}
 use Rattle.bft_node.specs.Crashes.{Image, IsCrash, Opens, Within}
 use Rattle.bft_node.specs.Held.{Held, with_deeds}
 use Rattle.bft_node.specs.Stores.{IsKept, config_of, held_of}

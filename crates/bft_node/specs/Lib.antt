@@ -14,3 +14,4 @@ pub mod Running
 pub mod Signings
 pub mod Standing
 pub mod Stores
+pub mod Recovering

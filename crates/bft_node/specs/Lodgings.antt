@@ -1,23 +1,26 @@
 -- The nodes of one world with their disks, and what an opening and a step make of one.
-use Rattle.std.specs.Prelude.{◌≡◌, ◌≢◌, ◌↔◌, ℕ, false, true, [], Option, Some, Result, Ok, Err, is_err, OnOk}
+use Rattle.std.specs.Prelude.{◌≡◌, ◌≢◌, ◌↔◌, ℕ, false, true, List, [], Option, Some, Result, Ok, Err, is_err, OnOk}
 use Rattle.gate_log.specs.Arms.{armed}
 use Rattle.gate_log.specs.Disk.{now}
 use Rattle.gate_log.specs.History.{states}
 use Rattle.gate_log.specs.Runs.{Went}
 use Rattle.gate_log.specs.declared.image.Image.{Image}
 use Rattle.gate_log.specs.declared.memory.MemDisk.{MemDisk}
-use Rattle.signer_edge.specs.Accepts.{Accepts}
+use Rattle.signer_edge.specs.Accepts.{Accepts as Acceptance}
 use Rattle.signer_edge.specs.Seals.{Seat, SealsOne, is_sealed}
-use Rattle.block_ledger.specs.Chains.{IsChain}
+use Rattle.block_ledger.specs.Chains.{Entry as Stored, IsChain}
+use Rattle.node_model.specs.Cores.{Core, after_opening}
+use Rattle.node_model.specs.Entries.{Event}
 use Rattle.node_model.specs.Steps.{Keys}
+use Rattle.bft_node.specs.Crashes.{Image as Files}
 use Rattle.bft_node.specs.NodeFaults.{HasNodeCause, counts}
 use Rattle.bft_node.specs.NodeSteps.{TakesStep}
 use Rattle.bft_node.specs.Returning.{opened}
-use Rattle.bft_node.specs.Running.{event_of, state_of}
-use Rattle.bft_node.specs.Signings.{Grows, KeysFit, Signs, keys_after, statements_in}
+use Rattle.bft_node.specs.Recovering.{Holds, Keeps}
+use Rattle.bft_node.specs.Running.{chain_of, state_of}
+use Rattle.bft_node.specs.Signings.{Grows, KeysFit, Signing, Signs, keys_after, statements_in}
 use Rattle.bft_node.specs.Stores.{IsKept, OpensTo, StaysOpen, config_of, held_of}
 use Rattle.bft_node.specs.declared.fault.OpenFault.{OpenFault}
-use Rattle.bft_node.specs.declared.live.Event.{Event}
 use Rattle.bft_node.specs.declared.live.Out.{Out}
 use Rattle.bft_node.specs.declared.live.Setup.{Setup}
 use Rattle.bft_node.specs.declared.node_fault.NodeFault.{NodeFault}
@@ -38,33 +41,58 @@ abbrev pub StaysAlike : Lodging → Lodging → Type 0
 StaysAlike before after = (id : ℕ) → after id ≡ before id
 
 -- what was accepted by a box of seals
-abbrev pub accepts_of : Seat → Accepts
+abbrev pub accepts_of : Seat → Acceptance
 accepts_of seat = is_sealed seat.seals
 
 -- the disk is as the node's last call left it
 abbrev pub IsKeptIn : Lodged → Type 0
 IsKeptIn l = l.node.closed ≡ false → IsKept l.node.running.store (now (states l.disk.history))
 
+-- it holds what it did on its disk
+abbrev pub HoldsIn : Acceptance → Lodged → Type 0
+HoldsIn accepts l = Holds accepts l.node.running (now (states l.disk.history))
+
+-- the bytes of a disk's files
+abbrev pub files_of : MemDisk → Files
+files_of disk = λ file. (now (states disk.history) file).reads
+
+-- a node that was found again as it was, but for the vote messages that it kept
+pub record IsFound (accepts : Acceptance) (l : Lodged) (chain : List Stored) (core : Core) : Type 0 where
+  pub chain : chain_of l.node.running ≡ chain
+  pub state : state_of l.node.running ≡ after_opening core
+  pub holds : HoldsIn accepts l
+
 -- A node as it is opened on what this disk holds.
-pub record IsOpenedOn (setup : Setup) (accepts : Accepts) (disk : MemDisk) (l : Lodged) : Type 0 where
+pub record IsOpenedOn (setup : Setup) (accepts : Acceptance) (disk : MemDisk) (l : Lodged) : Type 0 where
   pub runs : l.node.closed ≡ false
   pub id : l.node.running.id ≡ setup.me
   pub config : config_of l.node.running.store ≡ setup.genesis
-  pub chain : IsChain accepts setup.genesis (held_of l.node.running.store).blocks
+  pub chain : IsChain accepts setup.genesis (chain_of l.node.running)
   pub state : state_of l.node.running ≡ opened setup.genesis setup.me (held_of l.node.running.store)
   pub value : OpensTo accepts setup.genesis (now (states disk.history)) (Ok l.node.running.store)
-  pub any_moment : Went (StaysOpen accepts setup.genesis (now (states disk.history))) (states disk.history) (states l.disk.history)
+  pub finds : (chain : List Stored) (core : Core) → Keeps accepts setup.genesis setup.me (files_of disk) chain core
+      → IsFound accepts l chain core
+  pub any_moment : Went (StaysOpen accepts setup.genesis (now (states disk.history))) (states disk.history)
+      (states l.disk.history)
   pub kept : IsKept l.node.running.store (now (states l.disk.history))
 
 -- what `add` comes to: the node stands under its id, or the first fault is told
-abbrev pub Adds : Lodging → Lodging → Setup → Accepts → MemDisk → Result (Unit {0}) OpenFault → Type 0
+abbrev pub Adds : Lodging → Lodging → Setup → Acceptance → MemDisk → Result (Unit {0}) OpenFault → Type 0
 Adds before after setup accepts disk (Ok _) = (l : Lodged) × IsOpenedOn setup accepts disk l × Becomes before after setup.me (Some l)
 Adds before after setup accepts disk (Err fault) = StaysAlike before after × OpensTo accepts setup.genesis (now (states disk.history)) (Err fault)
 
--- One step of a node over its disk, by keys of the definition that say what the box did.
-pub record IsStepOf (old new : Lodged) (event : Event) (before after : Seat) (result : Result Out NodeFault) : Type 0 where
-  pub step : old.node.closed ≡ false → Signs SealsOne result before after (λ signings. (model : Keys) → KeysFit accepts_of model [] before signings → Grows accepts_of before signings
-      → TakesStep model old.node.running new.node.running (event_of event) (statements_in signings) (accepts_of before) (accepts_of (keys_after before signings)) result true (states old.disk.history) (states new.disk.history))
+-- what the keys signed, by keys of the definition that say what the box did
+abbrev pub TakesBy : Lodged → Lodged → Event → Seat → Result Out NodeFault → List (Signing Seat) → Type 0
+TakesBy old new event before result signings =
+    (model : Keys) → KeysFit accepts_of model [] before signings → Grows accepts_of before signings
+    → TakesStep model old.node.running new.node.running event (statements_in signings) (accepts_of before)
+        (accepts_of (keys_after before signings)) result true (states old.disk.history) (states new.disk.history)
+
+-- One step of a node over its disk.
+pub record IsStepOf (old new : Lodged) (event : Event) (before after : Seat) (result : Result Out NodeFault)
+    : Type 0 where
+  pub step : old.node.closed ≡ false
+      → Signs SealsOne result before after (TakesBy old new event before result)
   pub kept : OnOk result (IsKept new.node.running.store (now (states new.disk.history)))
   pub id : OnOk result (new.node.running.id ≡ old.node.running.id)
   pub config : OnOk result (config_of new.node.running.store ≡ config_of old.node.running.store)

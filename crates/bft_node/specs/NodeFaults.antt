@@ -1,13 +1,12 @@
 -- Why a step wasn't done.
 use Rattle.std.specs.Prelude.{ℕ, ◌^◌, ◌≤◌, ◌⊎◌, ◌≡◌, Bool, true, false, IsTrue, List, length, take, slice_get, Option, Some, IsSome, Result, Ok, Err}
 use Rattle.ord_types.specs.Causes.{Rose}
-use Rattle.ord_types.specs.declared.values.Proof.TheVariants.{Bft}
 use Rattle.bft_wal.specs.declared.record.WalRecord.TheVariants as record_of
 use Rattle.gate_log.specs.Disk.{State}
-use Rattle.node_model.specs.Deeds.{Deed, Accepts, Prepares, Delivers}
+use Rattle.node_model.specs.Entries.{Deed, Accepts, Prepares, Delivers, Leaves, Enters}
 use Rattle.signer_edge.specs.declared.signing.SignFault.{SignFault}
 use Rattle.signer_edge.specs.declared.signing.SignFault.TheVariants as sign_of
-use Rattle.bft_node.specs.Held.{Held, with_deeds}
+use Rattle.bft_node.specs.Held.{Held, carried_in, with_deeds}
 use Rattle.bft_node.specs.Stores.{IsKept, held_of, ledger_limit, log_limit}
 use Rattle.bft_node.specs.declared.store.Store.{Store}
 use Rattle.bft_node.specs.declared.fault.StoreFault.{StoreFault}
@@ -39,12 +38,16 @@ counts disk keys = record { disk = disk; keys = keys }
 abbrev pub write_limit : Store → Deed → Option ℕ
 write_limit store (Accepts i e v s b) = log_limit store (record_of.Accepted e v s b)
 write_limit store (Prepares i e v s d) = log_limit store (record_of.Prepared e v s d)
-write_limit store (Delivers i b cert) = ledger_limit store (b, Bft cert)
+write_limit store (Delivers i b proof) = ledger_limit store (b, proof)
+write_limit store (Leaves i e v) = log_limit store (record_of.Left e v)
+write_limit store (Enters i e v x choice) = log_limit store (record_of.Entered e v x (carried_in choice))
 
 abbrev pub is_delivery : Deed → Bool
-is_delivery (Delivers i b cert) = true
+is_delivery (Delivers i b proof) = true
 is_delivery (Accepts i e v s b) = false
 is_delivery (Prepares i e v s d) = false
+is_delivery (Leaves i e v) = false
+is_delivery (Enters i e v x choice) = false
 
 -- A deed of a node that holds so would make a file too long, or is the delivery after which no number is left. Where the disk tells, the
 -- files are those in which the node's store is kept.

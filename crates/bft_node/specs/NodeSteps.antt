@@ -1,72 +1,76 @@
 -- What a step of a node answers and leaves.
-use Rattle.std.specs.Prelude.{◌≡◌, ◌≤◌, ℕ, Bool, List, length, map, IsTrue, Result, Ok, Err}
-use Rattle.std.specs.List.{flat_map}
+use Rattle.std.specs.Prelude.{◌≡◌, ◌≤◌, ◌++◌, ℕ, Bool, List, None, length, map, IsTrue, Result, Ok, Err}
 use Rattle.gate_log.specs.Disk.{State, now}
 use Rattle.gate_log.specs.Runs.{Went}
-use Rattle.signer_edge.specs.Accepts.{Accepts}
+use Rattle.signer_edge.specs.Accepts.{Accepts as Acceptance}
 use Rattle.signer_edge.specs.Signing.{KeepsAccepted}
-use Rattle.block_ledger.specs.Chains.{IsChain}
-use Rattle.node_model.specs.Deeds.{deeds_of, unlogged}
-use Rattle.node_model.specs.Restarts.{returned_returns, step}
-use Rattle.node_model.specs.Steps.{Event, Keys}
-use Rattle.bft_node.specs.Crashes.{Image, IsCrash, Within}
-use Rattle.bft_node.specs.Held.{with_deeds}
-use Rattle.bft_node.specs.Making.{IsFront, OpensMade, Step, done_by, node_returns, sent_of, text_of}
+use Rattle.node_model.specs.Cores.{after_entries}
+use Rattle.node_model.specs.Entries.{Entry, Event, deeds_of, facts_of, statements_of, stored_of}
+use Rattle.node_model.specs.Steps.{Keys, duty, step}
+use Rattle.bft_node.specs.Crashes.{Image, IsCrash}
+use Rattle.bft_node.specs.Making.{IsFront, done_in, sends_of, sent_of}
 use Rattle.bft_node.specs.NodeFaults.{HasLimit}
-use Rattle.bft_node.specs.Running.{state_of}
-use Rattle.bft_node.specs.Stores.{config_of, held_of}
+use Rattle.bft_node.specs.Recovering.{Holds, KeepsFront, KeepsSigned}
+use Rattle.bft_node.specs.Running.{chain_of, state_of}
+use Rattle.bft_node.specs.Stores.{held_of}
 use Rattle.bft_node.specs.declared.node_fault.NodeFault.{NodeFault}
 use Rattle.bft_node.specs.declared.live.Out.{Out}
 use Rattle.bft_node.specs.declared.live.Running.{Running}
 
--- the step of the definition from where a node stands, with its deeds
-abbrev pub step_from : Keys → Running → Event → Step
-step_from keys r event = step node_returns keys (unlogged (state_of r)) event
+-- the step of the definition from where a node stands
+abbrev pub step_from : Keys → Running → Event → List Entry
+step_from keys r event = step keys (state_of r) event
 
--- The whole of what a step tells, signs and leaves is the definition's.
-pub record IsStep (keys : Keys) (old new : Running) (event : Event) (signed : List (List ℕ)) (out : Out) : Type 0 where
-  pub state : state_of new ≡ (step_from keys old event).state.state
-  pub held : held_of new.store ≡ with_deeds (deeds_of returned_returns keys (state_of old) event) (held_of old.store)
-  pub facts : out.facts ≡ (step_from keys old event).facts
-  pub sends : map sent_of out.sends ≡ map text_of (step_from keys old event).posts
-  pub done : out.done ≡ flat_map done_by (step_from keys old event).facts
-  pub signed_all : signed ≡ (step_from keys old event).signed
+-- The whole of what a step tells, signs and leaves is the definition's, and after it nothing is due.
+pub record IsStep (keys : Keys) (old new : Running) (made : List Entry) (signed : List (List ℕ)) (out : Out)
+    : Type 0 where
+  pub state : state_of new ≡ after_entries made (state_of old)
+  pub chain : chain_of new ≡ chain_of old ++ stored_of made
+  pub facts : out.facts ≡ facts_of made
+  pub sends : map sent_of out.sends ≡ sends_of made
+  pub done : out.done ≡ done_in made
+  pub signed_all : signed ≡ statements_of made
+  pub nothing_due : duty (keys.accepts signed) (state_of new) ≡ None
 
 -- What a step answers. One that was given up has signed the first of the step's statements.
-abbrev pub Steps : Keys → Running → Running → Event → List (List ℕ) → Result Out NodeFault → Type 0
-Steps keys old new event signed (Ok out) = IsStep keys old new event signed out
-Steps keys old new event signed (Err fault) = IsFront signed (step_from keys old event).signed
+abbrev pub Steps : Keys → Running → Running → List Entry → List (List ℕ) → Result Out NodeFault → Type 0
+Steps keys old new made signed (Ok out) = IsStep keys old new made signed out
+Steps keys old new made signed (Err fault) = IsFront signed (statements_of made)
 
--- Where the blocks held are a chain by what was accepted: at each moment every crash opens to what a front of the step's deeds leaves, for
+-- Where the node held what it did: at each moment every crash keeps it with a front of the step's entries, for
 -- every judge who accepts at least what the keys did at the end.
-abbrev pub StepsWithin : Keys → Running → Event → Accepts → Accepts → Bool → List State → List State → Type 0
-StepsWithin keys old event first accepts tells before after =
-    IsChain first (config_of old.store) (held_of old.store).blocks → (judge : Accepts) → KeepsAccepted accepts judge → IsTrue tells
-    → Went (Within judge (config_of old.store) (deeds_of returned_returns keys (state_of old) event) (held_of old.store)) before after
+abbrev pub StepsWithin : Running → List Entry → Acceptance → Acceptance → List State → List State → Type 0
+StepsWithin old made first accepts before after =
+    Holds first old (now before) → (judge : Acceptance) → KeepsAccepted accepts judge
+    → Went (λ state. (image : Image) → IsCrash state image → KeepsFront judge old made image) before after
 
--- And every crash after the step, whatever it answered, opens to what a front of its deeds leaves that has each deed on which a signature
--- made in it rests.
-abbrev pub StepsLeave : Keys → Running → Event → List (List ℕ) → Accepts → Accepts → Bool → List State → Type 0
-StepsLeave keys old event signed first accepts tells after =
-    IsChain first (config_of old.store) (held_of old.store).blocks → (judge : Accepts) → KeepsAccepted accepts judge → IsTrue tells
-    → (image : Image) → IsCrash (now after) image
-    → OpensMade judge (config_of old.store) (deeds_of returned_returns keys (state_of old) event) (held_of old.store) (step_from keys old event).signed signed image
+-- And every crash after the step, whatever it answered, keeps a front of its entries of which the signatures are
+-- those that were made.
+abbrev pub StepsLeave : Running → List Entry → List (List ℕ) → Acceptance → Acceptance → List State → List State
+    → Type 0
+StepsLeave old made signed first accepts before after =
+    Holds first old (now before) → (judge : Acceptance) → KeepsAccepted accepts judge
+    → (image : Image) → IsCrash (now after) image → KeepsSigned judge old made signed image
 
--- the blocks are a chain after it as they were before it
-abbrev pub StepsOnChain : Running → Running → Accepts → Accepts → Result Out NodeFault → Type 0
-StepsOnChain old new first accepts (Ok out) = IsChain first (config_of old.store) (held_of old.store).blocks → IsChain accepts (config_of old.store) (held_of new.store).blocks
-StepsOnChain old new first accepts (Err fault) = Unit {0}
+-- after a step that was done the node holds all of it
+abbrev pub StepsHold : Running → Running → Acceptance → Acceptance → List State → List State
+    → Result Out NodeFault → Type 0
+StepsHold old new first accepts before after (Ok out) = Holds first old (now before) → Holds accepts new (now after)
+StepsHold old new first accepts before after (Err fault) = Unit {0}
 
--- The number or the length that a step needed, where that is told. One that was done needed no block of a number above 2^62 - 1: the blocks
--- are numbered from 0, so the next one has their count as its number.
-abbrev pub StepsLimit : Keys → Running → Running → Event → Bool → Result Out NodeFault → Type 0
-StepsLimit keys old new event tells (Ok out) = length (held_of new.store).blocks ≤ 4611686018427387903
-StepsLimit keys old new event tells (Err fault) = HasLimit tells (held_of old.store) (deeds_of returned_returns keys (state_of old) event) fault
+-- The number or the length that a step needed, where that is told. One that was done needed no block of a number
+-- above 2^62 - 1: the blocks are numbered from 0, so the next one has their count as its number.
+abbrev pub StepsLimit : Running → Running → List Entry → Bool → Result Out NodeFault → Type 0
+StepsLimit old new made tells (Ok out) = length (chain_of new) ≤ 4611686018427387903
+StepsLimit old new made tells (Err fault) = HasLimit tells (held_of old.store) (deeds_of made) fault
 
--- WHAT A STEP DOES: its answer, and what it leaves at each moment and at its end.
-pub record TakesStep (keys : Keys) (old new : Running) (event : Event) (signed : List (List ℕ)) (first accepts : Accepts) (result : Result Out NodeFault) (tells : Bool) (before after : List State) : Type 0 where
-  pub steps : Steps keys old new event signed result
-  pub within : StepsWithin keys old event first accepts tells before after
-  pub leaves : StepsLeave keys old event signed first accepts tells after
-  pub chain : StepsOnChain old new first accepts result
-  pub limit : StepsLimit keys old new event tells result
+-- WHAT A STEP DOES: its answer, and what it leaves at each moment and at its end. What is said of crashes is said
+-- of a disk that tells its content.
+pub record TakesStep (keys : Keys) (old new : Running) (event : Event) (signed : List (List ℕ))
+    (first accepts : Acceptance) (result : Result Out NodeFault) (tells : Bool) (before after : List State)
+    : Type 0 where
+  pub steps : Steps keys old new (step_from keys old event) signed result
+  pub within : IsTrue tells → StepsWithin old (step_from keys old event) first accepts before after
+  pub leaves : IsTrue tells → StepsLeave old (step_from keys old event) signed first accepts before after
+  pub holds : IsTrue tells → StepsHold old new first accepts before after result
+  pub limit : StepsLimit old new (step_from keys old event) tells result

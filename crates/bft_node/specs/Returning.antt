@@ -8,8 +8,7 @@ use Rattle.bft_wal.specs.Fold.{durable_of}
 use Rattle.bft_wal.specs.declared.durable.Durable.{Durable}
 use Rattle.block_ledger.specs.Places.{place_after}
 use Rattle.view_model.specs.Acts.{View}
-use Rattle.node_model.specs.Cores.{Core}
-use Rattle.node_model.specs.Restarts.{Returned, found_in}
+use Rattle.node_model.specs.Cores.{Core, found_in}
 use Rattle.bft_node.specs.Held.{Held}
 
 -- the block of the newest acceptance, where it is of this view
@@ -37,12 +36,14 @@ view_at me place durable =
       kept = [];
     }
 
--- where the ledger stands, and what the log leaves there
-abbrev pub core_at : ℕ → Place → Held → Core
-core_at me place held = record { place = place; view = view_at me place (durable_of place.config.number place.height held.records) }
+-- where the ledger stands, and what is durable there
+abbrev pub core_at : ℕ → Place → Durable → Core
+core_at me place durable =
+    let view : View = view_at me place durable in
+    record { place = place; view = view; found = found_in place view }
 
 -- the state of a node of this id that is opened on what is held, in the chain of this configuration
-abbrev pub opened : Config → ℕ → Held → Returned
+abbrev pub opened : Config → ℕ → Held → Core
 opened c me held =
-    let core : Core = core_at me (place_after c held.blocks) held in
-    record { core = core; found = found_in core.place core.view }
+    let place : Place = place_after c held.blocks in
+    core_at me place (durable_of place.config.number place.height held.records)

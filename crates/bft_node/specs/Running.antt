@@ -4,29 +4,35 @@ use Rattle.std.specs.Option.{option_map}
 use Rattle.ord_types.specs.Grammar.{IsNumber}
 use Rattle.ord_types.specs.declared.values.Place.{Place}
 use Rattle.gate_log.specs.Disk.{State, now}
+use Rattle.block_ledger.specs.Chains.{Entry}
+use Rattle.block_ledger.specs.Ledgers.{blocks_of}
 use Rattle.block_ledger.specs.Places.{place_after}
-use Rattle.node_model.specs.Restarts.{Returned, Found}
-use Rattle.node_model.specs.Steps as steps
+use Rattle.node_model.specs.Cores.{Core, Found}
 use Rattle.view_core.specs.Places.{IsPlace, StandsAt}
 use Rattle.bft_node.specs.Stores.{IsKept, config_of, held_of}
-use Rattle.bft_node.specs.declared.live.Event.{Event}
-use Rattle.bft_node.specs.declared.live.Event.TheVariants.{Tick, FromMember}
 use Rattle.bft_node.specs.declared.live.Found.{Found as Kept}
 use Rattle.bft_node.specs.declared.live.Running.{Running}
+
+-- the chain of its blocks with their proofs
+abbrev pub chain_of : Running → List Entry
+chain_of r = blocks_of r.store.ledger
 
 -- where its ledger stands
 abbrev pub place_of : Running → Place
 place_of r = place_after (config_of r.store) (held_of r.store).blocks
 
 abbrev pub as_found : Option Kept → Option Found
-as_found found = option_map (λ (f : Kept). record { config = f.config; view = f.view; height = f.height; block = f.block; is_prepared = f.is_prepared }) found
+as_found found =
+    option_map (λ (f : Kept). record {
+      config = f.config;
+      view = f.view;
+      height = f.height;
+      block = f.block;
+      is_prepared = f.is_prepared;
+    }) found
 
-abbrev pub state_of : Running → Returned
-state_of r = record { core = record { place = place_of r; view = r.view }; found = as_found r.found }
-
-abbrev pub event_of : Event → steps.Event
-event_of (Tick offer) = steps.Tick offer
-event_of (FromMember from bytes) = steps.FromMember from bytes
+abbrev pub state_of : Running → Core
+state_of r = record { place = place_of r; view = r.view; found = as_found r.found }
 
 -- its view is its own, at its place; all numbers have a spelling
 pub record IsSound (r : Running) : Type 0 where

@@ -16,7 +16,7 @@ use Rattle.block_ledger.specs.Ledgers.{IsKept as IsLedgerKept, blocks_of, end_of
 use Rattle.block_ledger.specs.Reading.{Bad, Chain, Foreign, stands_for}
 use Rattle.block_ledger.specs.declared.fault.LedgerFault.{LedgerFault}
 use Rattle.block_ledger.specs.declared.fault.LedgerFault.TheVariants as ledger_of
-use Rattle.node_model.specs.Deeds.{Deed}
+use Rattle.node_model.specs.Entries.{Deed}
 use Rattle.bft_node.specs.Crashes.{Image, IsCrash}
 use Rattle.bft_node.specs.Held.{Held, with_deed}
 use Rattle.bft_node.specs.declared.fault.OpenFault.{OpenFault}

@@ -1,25 +1,21 @@
--- The world of the model: its nodes are computed from all that happened at them, and it keeps the list of all facts.
-use Rattle.std.specs.Prelude.{ℕ, List, [], ◌∷◌, ◌++◌, reverse, Option, None}
+-- The world of the model: its nodes are computed from all that happened at them, and it keeps the list of all
+-- facts.
+use Rattle.std.specs.Prelude.{ℕ, List, [], ◌++◌, reverse, Option, None}
 use Rattle.line_flow.specs.Lines.{lines}
 use Rattle.safety_model.specs.Facts.{History}
-use Rattle.node_model.specs.Deeds.{past_did}
-use Rattle.node_model.specs.Keeping.{PastNode}
-use Rattle.node_model.specs.Past.{Opened}
-use Rattle.node_model.specs.Restarts.{past_returns}
+use Rattle.node_model.specs.Keeping.{PastNode, core_of_past, past_on, with_entries}
 use Rattle.script_play.specs.Runs.{Run, script_run}
 use Rattle.script_play.specs.Worlds as played
-use Rattle.world_model.specs.Worlds.{Outcome, Setting, World}
+use Rattle.world_model.specs.Worlds.{Keeping, Outcome, Setting, World}
 use Rattle.world_model.specs.Turns.{turn_of, closing_of}
 
 -- the history is the list of all facts, the newest first
+abbrev pub past_keeping : Keeping PastNode
+past_keeping = record { look = core_of_past; opens = past_on; takes = with_entries }
+
 abbrev pub past_setting : Setting PastNode History
 past_setting =
-    record {
-      returns = past_returns;
-      stops = λ deeds n. record n { past = Opened ∷ past_did deeds n.past };
-      silent = [];
-      hears = λ facts history. reverse facts ++ history;
-    }
+    record { keeping = past_keeping; silent = []; hears = λ facts history. reverse facts ++ history }
 
 -- the run of a script: its text, and how it ends, a function of its bytes and of the outcomes
 abbrev pub run_of : List Outcome → List ℕ → Run
