@@ -1,8 +1,27 @@
--- A step of a node by itself: where what the node took rests on a run that has its facts, all that it does is allowed by that run.
-use Rattle.std.specs.Prelude.{◌≡◌, ◌≤◌, ℕ, ◌==◌, Bool, false, ◌||◌, List, [], ◌∷◌, ◌++◌, reverse, take, Some, IsTrue, ⊤}
+-- A step of a node by itself: where what the node took rests on a run that has its facts, all that it does is
+-- allowed by that run, one entry after another.
+use Rattle.std.specs.Prelude.{
+  ◌≡◌,
+  ◌≤◌,
+  ℕ,
+  ◌==◌,
+  Bool,
+  false,
+  ◌||◌,
+  List,
+  [],
+  ◌∷◌,
+  ◌++◌,
+  reverse,
+  take,
+  Some,
+  IsTrue,
+  ⊤,
+}
 use Rattle.std.specs.List.{All, AllByRecursion}
 use Rattle.ord_types.specs.Grammar.{HasIdsSpelling, HasRequestSpelling, HasSigSpelling, IsNumber}
 use Rattle.ord_types.specs.Members.{is_in}
+use Rattle.safety_model.specs.Blocks.{Request}
 use Rattle.safety_model.specs.Facts.{History, has, is_prepared}
 use Rattle.safety_model.specs.Rules.{Allowed, IsRun, actor, bound_of, faulty}
 use Rattle.safety_model.specs.Safety.{IsGenesis}
@@ -13,17 +32,29 @@ use Rattle.bft_wire.specs.Messages.{HasMessageSpelling}
 use Rattle.bft_wire.specs.declared.message.Message.{Message}
 use Rattle.view_model.specs.declared.letter.Letter.{Letter}
 use Rattle.view_model.specs.declared.letter.VoteMessage.TheVariants as message_of
-use Rattle.node_model.specs.Deeds.{deeds_of, past_did}
-use Rattle.node_model.specs.Keeping.{PastNode}
-use Rattle.view_model.specs.Letters.{letter_in, on_wire}
-use Rattle.node_model.specs.Past.{Entry, Past, Opened, Came, Did, Signed, facts_of}
-use Rattle.node_model.specs.Restarts.{past_returns, returned_returns, step}
-use Rattle.node_model.specs.Seen.{NothingAhead, returned_of_past}
-use Rattle.node_model.specs.Steps.{Event, Tick, FromMember, Keys, Making, Post}
-use Rattle.world_model.specs.Worlds.{made_of}
-use Rattle.world_safety.specs.Fits.{ActFits, FactFits, MessageFits}
+use Rattle.view_model.specs.Letters.{on_wire}
+use Rattle.node_model.specs.declared.event.Event.{Event}
+use Rattle.node_model.specs.Cores.{Core, after_entries}
+use Rattle.node_model.specs.Entries.{
+  Came,
+  Commits,
+  Did,
+  Entry,
+  Opened,
+  Past,
+  Pledge,
+  Sent,
+  Signed,
+  facts_in,
+  facts_of,
+  letter_brought,
+  offer_in,
+}
+use Rattle.node_model.specs.Keeping.{PastNode, core_of_past, with_entries}
+use Rattle.node_model.specs.Laws.{AllFit, NothingAhead}
+use Rattle.node_model.specs.Steps.{Keys, step}
+use Rattle.world_safety.specs.Fits.{DeedFits, FactFits, MessageFits}
 use Rattle.world_safety.specs.Resting.{has_ground, own}
-use Rattle.world_safety.specs.Safe.{IsPreparedStatement}
 
 -- WHAT A STEP MAY REST ON
 
@@ -47,113 +78,131 @@ pub record IsBrought (su : Setup) (h : History) (letter : Letter) : Type 0 where
   pub rests : IsTrue (rests su h letter)
   pub fits : MessageFits letter.message
 
--- what an event brings is good: the requests have a spelling, and so has the vote message that the bytes spell, which rests on a fact
-abbrev pub IsGoodEvent : Setup → History → Event → Type 0
-IsGoodEvent su h (Tick offer) = All HasRequestSpelling offer
-IsGoodEvent su h (FromMember from bytes) = (letter : Letter) → letter_in from bytes ≡ Some letter → IsBrought su h letter
+-- what an event brings is good: the requests have a spelling, and so has the vote message that the bytes spell,
+-- which rests on a fact
+pub record IsGoodEvent (su : Setup) (h : History) (event : Event) : Type 0 where
+  pub offer : (rs : List Request) → offer_in event ≡ Some rs → All HasRequestSpelling rs
+  pub letter : (letter : Letter) → letter_brought event ≡ Some letter → IsBrought su h letter
 
--- node i left its view, or entered one
-abbrev pub moves : ℕ → Fact → Bool
-moves i (Left j e v) = j == i
-moves i (Entered j e v x choice) = j == i
-moves i _ = false
+-- WHAT STANDS IN A PAST
 
--- What stands in the past of node i rests on the history: each event is good, each acceptance names the block of its digest, and each
--- Commit that the node signed is of what it prepared.
+-- a Commit that node i signed is of what it prepared, and has a spelling
+abbrev pub IsGoodPledge : History → ℕ → Pledge → Type 0
+IsGoodPledge h i (Commits m) =
+    IsTrue (has (is_prepared i m.config m.view m.number m.digest) h) × MessageFits (message_of.Commit m)
+
+-- a message that node i sent rests on a fact, has a spelling, and goes to members
+pub record IsGoodSending (members : List ℕ) (h : History) (i : ℕ) (receivers : List ℕ) (message : Message)
+    : Type 0 where
+  pub ground : IsTrue (has_ground h i message)
+  pub spelled : HasMessageSpelling message
+  pub to : AllByRecursion (λ to. IsTrue (is_in to members)) receivers
+
+-- What stands in the past of node i rests on the history: each event is good, each block that it accepted or
+-- delivered has a spelling, and each Commit that it signed and each message that it sent is good.
 abbrev pub IsGoodEntry : Setup → History → ℕ → Entry → Type 0
 IsGoodEntry su h i Opened = ⊤
 IsGoodEntry su h i (Came event accepts) = IsGoodEvent su h event
-IsGoodEntry su h i (Did f b) = ActFits f b
-IsGoodEntry su h i (Signed m accepts) = IsTrue (has (is_prepared i m.config m.view m.number m.digest) h) × MessageFits (message_of.Commit m)
+IsGoodEntry su h i (Did deed) = DeedFits deed
+IsGoodEntry su h i (Signed pledge accepts) = IsGoodPledge h i pledge
+IsGoodEntry su h i (Sent receivers message) = IsGoodSending su.config.members h i receivers message
 
--- Node i with this past, where these are all facts: the history has the facts of its past, in their order, and no others of this
--- node; it never left or entered a view; and all that stands in its past rests on the history.
+-- node i left its view, or entered one
+abbrev pub changes_view : ℕ → Fact → Bool
+changes_view i (Left j e v) = j == i
+changes_view i (Entered j e v x choice) = j == i
+changes_view i _ = false
+
+-- Node i with this past, where these are all facts: the history has the facts of its past, in their order, and
+-- no others of this node; it never left or entered a view; and all that stands in its past rests on the history.
 pub record NodeStands (su : Setup) (h : History) (i : ℕ) (past : Past) : Type 0 where
   pub own : own i h ≡ facts_of past
-  pub still : has (moves i) h ≡ false
+  pub still : has (changes_view i) h ≡ false
   pub entries : AllByRecursion (IsGoodEntry su h i) past
 
--- WHAT IT THEN MAKES
+-- a node of this id in a run whose blocks have a spelling
+pub record StandsIn (su : Setup) (h : History) (i : ℕ) (n : PastNode) : Type 0 where
+  pub config : n.config ≡ su.config
+  pub id : n.id ≡ i
+  pub run : IsRun su h
+  pub fit : AllByRecursion FactFits h
+  pub node : NodeStands su h i n.past
 
--- a message that member i sends rests on a fact, and has a spelling
-pub record IsGoodMessage (h : History) (i : ℕ) (message : Message) : Type 0 where
-  pub ground : IsTrue (has_ground h i message)
-  pub spelled : HasMessageSpelling message
+-- WHAT IT THEN DOES, one entry after another
 
--- and goes to one of the members
-pub record IsGoodPost (members : List ℕ) (h : History) (i : ℕ) (post : Post) : Type 0 where
-  pub message : IsGoodMessage h i post.message
-  pub to : IsTrue (is_in post.to members)
-
--- these statements are of what node i prepared among these facts, or before
-abbrev pub ArePrepared : History → ℕ → List Fact → List (List ℕ) → Type 0
-ArePrepared h i facts statements = AllByRecursion (IsPreparedStatement (reverse facts ++ h) i) statements
-
--- each of these facts is allowed by the history and those before it
+-- each of these facts is allowed by the history and those behind it
 abbrev pub AreAllowed : Setup → History → List Fact → Type 0
 AreAllowed su h [] = ⊤
-AreAllowed su h (f ∷ facts) = Allowed su h f × AreAllowed su (f ∷ h) facts
+AreAllowed su h (f ∷ facts) = Allowed su (facts ++ h) f × AreAllowed su h facts
 
--- These are facts of node i, each allowed by the history and those before it, so that the history with all of them is a run; what is
--- delivered in it has a spelling; and the signed statements are of what the node prepared in it.
-pub record AreAllowedActs (su : Setup) (i : ℕ) (h : History) (facts : List Fact) (statements : List (List ℕ)) : Type 0 where
-  pub mine : AllByRecursion (λ f. IsTrue (actor f == i)) facts
-  pub allowed : AreAllowed su h facts
-  pub run : IsRun su (reverse facts ++ h)
-  pub fit : AllByRecursion FactFits (reverse facts ++ h)
-  pub signed : ArePrepared h i facts statements
+-- An entry of node i: its facts are the node's own, and allowed by the history, and by the history with them it
+-- is good: a signed Commit is of what the node prepared by then, and a message rests on what it did by then.
+pub record IsAllowedEntry (su : Setup) (i : ℕ) (h : History) (entry : Entry) : Type 0 where
+  pub mine : AllByRecursion (λ f. IsTrue (actor f == i)) (facts_in entry)
+  pub allowed : AreAllowed su h (facts_in entry)
+  pub good : IsGoodEntry su (facts_in entry ++ h) i entry
 
--- all that a step makes; each message rests on the history with the step's facts
-pub record IsAllowedStep {S : Type 0} (su : Setup) (i : ℕ) (h : History) (m : Making S) : Type 0 where
-  pub acts : AreAllowedActs su i h m.facts m.signed
-  pub posts : AllByRecursion (IsGoodPost su.config.members (reverse m.facts ++ h) i) m.posts
-  -- also where it is stopped: so many facts are kept, and these signatures were made
-  pub fronts : (kept count : ℕ) → AreAllowedActs su i h (take kept m.facts) (made_of kept count m.facts m.signed)
+-- each entry is allowed by the history and the facts of the entries before it, so a front of them is too
+abbrev pub IsAllowedStep : Setup → ℕ → History → List Entry → Type 0
+IsAllowedStep su i h [] = ⊤
+IsAllowedStep su i h (entry ∷ entries) =
+    IsAllowedEntry su i h entry × IsAllowedStep su i (facts_in entry ++ h) entries
 
 -- THE LAWS
 
--- The history is a run in which the node stands, which is correct, and no more members lie than the bound allows; what comes rests on it,
--- and the keys sign with what has a spelling. Of the signatures that they accept nothing is asked.
-pub record MayStep (h : History) (keys : Keys) (n : PastNode) (event : Event) : Type 0 where
-  pub bounded : IsBounded n.setup
-  pub correct : is_in n.id n.setup.byzantine ≡ false
-  pub run : IsRun n.setup h
-  pub fit : AllByRecursion FactFits h
-  pub node : NodeStands n.setup h n.id n.past
-  pub brings : IsGoodEvent n.setup h event
+-- The history is a run in which the node stands, which is correct, and no more members lie than the bound
+-- allows; what comes rests on it, and the keys sign with what has a spelling. Of the signatures that they accept
+-- nothing is asked.
+pub record MayStep (su : Setup) (h : History) (keys : Keys) (n : PastNode) (event : Event) : Type 0 where
+  pub bounded : IsBounded su
+  pub correct : is_in n.id su.byzantine ≡ false
+  pub node : StandsIn su h n.id n
+  pub brings : IsGoodEvent su h event
   pub signs : SignsFit keys
 
--- all that a step makes is allowed, from a past and in place
-abbrev pub StepsAreAllowed : Type 0
-StepsAreAllowed = (h : History) (keys : Keys) (n : PastNode) (event : Event) → MayStep h keys n event → IsAllowedStep n.setup n.id h (step past_returns keys n event)
+-- the entries of a step from a past
+abbrev pub made_of : Keys → PastNode → Event → List Entry
+made_of keys n event = step keys (core_of_past n) event
 
+-- all that a step makes is allowed, from a past
+abbrev pub StepsAreAllowed : Type 0
+StepsAreAllowed =
+    (su : Setup) (h : History) (keys : Keys) (n : PastNode) (event : Event) → MayStep su h keys n event
+    → IsAllowedStep su n.id h (made_of keys n event)
+
+-- And in place: where nothing stood ahead of a node's height, and these entries fitted, one after another, it
+-- steps from the state that they left, updated in place.
 abbrev pub StepsInPlaceAreAllowed : Type 0
 StepsInPlaceAreAllowed =
-    (h : History) (keys : Keys) (n : PastNode) (event : Event) → NothingAhead n → MayStep h keys n event → IsAllowedStep n.setup n.id h (step returned_returns keys (returned_of_past n) event)
+    (su : Setup) (h : History) (keys : Keys) (n : PastNode) (before : List Entry) (event : Event)
+    → NothingAhead n → AllFit before (core_of_past n) → MayStep su h keys (with_entries before n) event
+    → IsAllowedStep su n.id h (step keys (after_entries before (core_of_past n)) event)
 
--- the node that a step leaves, which is still of this setup and id
-pub record StandsAfter (su : Setup) (h : History) (i : ℕ) (n : PastNode) : Type 0 where
-  pub setup : n.setup ≡ su
-  pub id : n.id ≡ i
-  pub node : NodeStands su h i n.past
-
--- A node stands from its first opening on: after each of its steps by the history with the step's facts, after one that was stopped and the
--- opening behind it by the history with those that were kept, after an opening between two steps, and after a fact of another node.
+-- A node stands from its first opening on: after each of its steps by the history with the step's facts, after
+-- one that was stopped and the opening behind it by the history with those that were kept, after an opening
+-- between two steps, and after a fact of another node.
 abbrev pub NodesStandAtFirst : Type 0
 NodesStandAtFirst = (su : Setup) (i : ℕ) → NodeStands su [] i (Opened ∷ [])
 
 abbrev pub NodesStandAfterSteps : Type 0
 NodesStandAfterSteps =
-    (h : History) (keys : Keys) (n : PastNode) (event : Event) → MayStep h keys n event
-    → StandsAfter n.setup (reverse (step past_returns keys n event).facts ++ h) n.id (step past_returns keys n event).state
+    (su : Setup) (h : History) (keys : Keys) (n : PastNode) (event : Event) → MayStep su h keys n event
+    → StandsIn su (reverse (facts_of (made_of keys n event)) ++ h) n.id (with_entries (made_of keys n event) n)
 
+-- a stop leaves a front of the step's entries
 abbrev pub NodesStandAfterStops : Type 0
 NodesStandAfterStops =
-    (h : History) (keys : Keys) (n : PastNode) (event : Event) (kept : ℕ) → MayStep h keys n event
-    → NodeStands n.setup (reverse (take kept (step past_returns keys n event).facts) ++ h) n.id (Opened ∷ past_did (take kept (deeds_of past_returns keys n event)) n.past)
+    (su : Setup) (h : History) (keys : Keys) (n : PastNode) (event : Event) (cut : ℕ)
+    → MayStep su h keys n event
+    → StandsIn su (reverse (facts_of (take cut (made_of keys n event))) ++ h) n.id
+        (with_entries (take cut (made_of keys n event) ++ Opened ∷ []) n)
 
 abbrev pub NodesStandAfterOpenings : Type 0
-NodesStandAfterOpenings = (su : Setup) (h : History) (i : ℕ) (past : Past) → NodeStands su h i past → NodeStands su h i (Opened ∷ past)
+NodesStandAfterOpenings =
+    (su : Setup) (h : History) (i : ℕ) (past : Past) → NodeStands su h i past
+    → NodeStands su h i (Opened ∷ past)
 
 abbrev pub NodesStandAfterOthers : Type 0
-NodesStandAfterOthers = (su : Setup) (h : History) (i : ℕ) (past : Past) (f : Fact) → (actor f == i) ≡ false → NodeStands su h i past → NodeStands su (f ∷ h) i past
+NodesStandAfterOthers =
+    (su : Setup) (h : History) (i : ℕ) (past : Past) (f : Fact) → (actor f == i) ≡ false
+    → NodeStands su h i past → NodeStands su (f ∷ h) i past

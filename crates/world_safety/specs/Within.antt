@@ -21,7 +21,7 @@ use Rattle.bft_wire.specs.Reading.{message_in}
 use Rattle.bft_wire.specs.Spelling.{message_text}
 use Rattle.node_model.specs.Keeping.{PastNode, past_place}
 use Rattle.view_model.specs.Letters.{PrePrepare}
-use Rattle.node_model.specs.Steps.{Event}
+use Rattle.node_model.specs.declared.event.Event.{Event}
 use Rattle.world_model.specs.Histories.{past_setting, worlds_of}
 use Rattle.world_model.specs.Turns.{delivery, first_config, first_outcome, first_world, is_running, most_flushed, ordinary, submitted, tick_at, turn_of}
 use Rattle.world_model.specs.Liars.{commit_for, is_raft_if_any, longest, prepare_for, proposal_of, proposed_in, sig_at, statement_for, with_sent, with_signed}
@@ -34,7 +34,7 @@ PastWorld = World PastNode History
 
 abbrev pub after_event_by : PastWorld → Node PastNode → Event → Outcome → PastWorld
 after_event_by w node event GoesOn = world_after past_setting w node (making past_setting w node event)
-after_event_by w node event (Stops kept signed) = world_stopped_in past_setting w node event kept signed
+after_event_by w node event (Stops cut) = world_stopped_in past_setting w node event cut
 
 -- the first outcome is taken
 abbrev pub after_outcome : PastWorld → PastWorld
@@ -48,7 +48,7 @@ after_event w node event =
 -- TICK
 
 abbrev pub after_tick : PastWorld → Node PastNode → PastWorld
-after_tick w node = after_event w node (tick_of past_setting.returns.ways node)
+after_tick w node = after_event w node (tick_of past_setting.keeping node)
 
 -- the world after a tick of a node that runs, then the rest
 abbrev pub in_tick : ℕ → PastWorld → Option (Node PastNode) → (PastWorld → List PastWorld) → List PastWorld
@@ -107,7 +107,7 @@ after_submit w node bytes = record w { nodes = with_node (submitted node bytes) 
 -- STOP, STOP AT A CALL, START
 
 abbrev pub after_stop : PastWorld → Node PastNode → PastWorld
-after_stop w node = world_stopped past_setting w node [] []
+after_stop w node = world_stopped past_setting w node []
 
 abbrev pub after_stop_at : PastWorld → Node PastNode → PastWorld
 after_stop_at w node = record w { nodes = with_node (record node { armed = true }) w.nodes }
