@@ -14,7 +14,8 @@ use Rattle.safety_model.proofs.FactTests.{bytes_same}
 use Rattle.signer_edge.specs.Seals.{is_seal, is_sealed}
 use Rattle.signer_edge.specs.Statements.{commit_text}
 use Rattle.signer_edge.specs.declared.seals.Seal.{Seal}
-use Rattle.world_safety.specs.Safe.{AreBacked, IsAllowedSeal, IsPreparedStatement, signs_anything}
+use Rattle.world_safety.specs.Resting.{IsPreparedStatement}
+use Rattle.world_safety.specs.Safe.{AreBacked, IsAllowedSeal, signs_anything}
 
 -- STATEMENTS
 

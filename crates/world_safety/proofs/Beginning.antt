@@ -11,11 +11,11 @@ use Rattle.safety_model.specs.Facts.{History}
 use Rattle.safety_model.specs.State.{Setup}
 use Rattle.script.specs.Commands.{AreIds}
 use Rattle.script.specs.declared.command.Command.TheVariants.{Genesis}
-use Rattle.node_model.specs.Keeping.{PastNode, setup_on}
-use Rattle.world_model.specs.Histories.{past_setting}
+use Rattle.node_model.specs.Keeping.{PastNode}
+use Rattle.world_model.specs.Histories.{past_keeping, past_setting}
 use Rattle.world_model.specs.Turns.{first_config, first_node, first_world}
 use Rattle.world_model.specs.Worlds.{Node, Outcome, World}
-use Rattle.world_safety.specs.Safe.{ids_of}
+use Rattle.world_safety.specs.Safe.{ids_of, setup_on}
 use Rattle.world_safety.proofs.Ids.{all_members}
 use Rattle.world_safety.proofs.Lists.{all_map, all_mapped}
 use Rattle.script.proofs.IdLemmas.{ids_spelled}
@@ -23,16 +23,16 @@ use Rattle.world_safety.proofs.Nodes.{opened}
 use Rattle.world_safety.proofs.Worlds.{GoodWorld, NodeIn, correct_in}
 use Rattle.world_safety.specs.Within.{worlds_in_turn}
 
-same_ids : (c : Config) (byzantine ids : List ℕ) → ids_of (map (first_node past_setting c byzantine) ids) ≡ ids
-same_ids c byzantine [] = refl
-same_ids c byzantine (id ∷ ids) = ap (λ more. id ∷ more) (same_ids c byzantine ids)
+same_ids : (c : Config) (ids : List ℕ) → ids_of (map (first_node past_keeping c) ids) ≡ ids
+same_ids c [] = refl
+same_ids c (id ∷ ids) = ap (λ more. id ∷ more) (same_ids c ids)
 
 pub first_good : (outcomes : List Outcome) (members byzantine : List ℕ) → AreIds members → how_many_in byzantine members ≤ fault_bound (length members)
     → GoodWorld (setup_on (first_config members) byzantine) (first_world past_setting outcomes (first_config members) byzantine)
 first_good outcomes members byzantine are few =
     let c = first_config members in
     let su = setup_on c byzantine in
-    let node : ℕ → Node PastNode = first_node past_setting c byzantine in
+    let node : ℕ → Node PastNode = first_node past_keeping c in
     let ids = correct_in su in
     record {
       first = refl;
@@ -40,10 +40,10 @@ first_good outcomes members byzantine are few =
       bounded = record { genesis = record { block = refl; bft = refl }; few = few; number = omega arith; members = ids_spelled members are };
       run = tt;
       fit = tt;
-      members = same_ids c byzantine ids;
+      members = same_ids c ids;
       actors = tt;
       nodes = all_mapped (NodeIn su [] []) node ids
-          (all_map (λ id. is_in id ids ≡ true) (λ id. NodeIn su [] [] (node id)) (λ id is. record { setup = refl; id = refl; correct = is; stands = opened su id; pool = All-nil HasRequestSpelling; stored = refl; sealed = record { config = refl; letters = tt } }) ids (all_members ids));
+          (all_map (λ id. is_in id ids ≡ true) (λ id. NodeIn su [] [] (node id)) (λ id is. record { config = refl; id = refl; correct = is; stands = opened su id; pool = All-nil HasRequestSpelling; stored = refl; sealed = tt }) ids (all_members ids));
       network = tt;
       certified = tt;
       sealed = tt;

@@ -7,7 +7,7 @@ use Rattle.std.proofs.lemmas.Bool.{and_from, eqb-true, false_from_ne_true, or_ri
 use Rattle.ord_types.specs.Grammar.{HasRequestSpelling, IsNumber, IsWord}
 use Rattle.ord_types.specs.Members.{is_in}
 use Rattle.ord_types.proofs.Laws.{IsBytes}
-use Rattle.safety_model.specs.Blocks.{Request}
+use Rattle.safety_model.specs.Blocks.{Config, Request}
 use Rattle.safety_model.specs.Facts.{History}
 use Rattle.safety_model.specs.State.{Setup, config_of, view}
 use Rattle.script.specs.Commands.{IsPropose}
@@ -19,7 +19,7 @@ use Rattle.bft_wire.specs.Reading.{message_in}
 use Rattle.bft_wire.specs.Spelling.{message_text}
 use Rattle.node_model.specs.Keeping.{PastNode, past_place, place_of}
 use Rattle.view_model.specs.Letters.{PrePrepare}
-use Rattle.node_model.specs.Past.{facts_of}
+use Rattle.node_model.specs.Entries.{facts_of}
 use Rattle.world_model.specs.Liars.{commit_for, is_raft_if_any, longer, longest, prepare_for, proposal_of, sig_at, statement_for, with_sent, with_signed}
 use Rattle.world_model.specs.Turns.{ordinary}
 use Rattle.world_model.specs.Worlds.{Node, World, seals_of}
@@ -31,7 +31,7 @@ use Rattle.world_safety.proofs.Lists.{all_append, all_map}
 use Rattle.world_safety.proofs.Placing.{place_fits}
 use Rattle.world_safety.proofs.Proposing.{IsHarmless, IsReadProposal, commit_harmless, prepare_harmless, proposal_harmless}
 use Rattle.world_safety.proofs.Reading.{EntryIn, IsLiar, bytes_spelled, lied_in}
-use Rattle.world_safety.proofs.Sealing.{facts_certified, node_sealed}
+use Rattle.world_safety.proofs.Sealing.{facts_certified, past_sealed}
 use Rattle.world_safety.proofs.Worlds.{GoodWorld, IsSealIn, NodeIn, above, correct_in, correct_is}
 
 -- WHO IS NO CORRECT MEMBER: a Byzantine one, and id 0
@@ -73,13 +73,13 @@ signed_good su w id statement good any =
       actors = good.actors;
       nodes = all_map (NodeIn su w.told w.seals) (NodeIn su w.told box)
           (λ node is. record {
-            setup = is.setup;
+            config = is.config;
             id = is.id;
             correct = is.correct;
             stands = is.stands;
             pool = is.pool;
             stored = is.stored;
-            sealed = node_sealed (is_sealed w.seals) (is_sealed box) grown su.config node.state is.sealed;
+            sealed = past_sealed (is_sealed w.seals) (is_sealed box) grown su.config node.id node.state.past is.sealed;
           }) w.nodes good.nodes;
       network = good.network;
       certified = facts_certified (is_sealed w.seals) (is_sealed box) grown su.config w.told good.certified;
@@ -129,9 +129,9 @@ node_place su w node good is =
     let i = node.id in
     let g = facts_of node.state.past in
     let v = view i (config_of su i g).number g in
-    let fits : PlaceFits (place_of su i g) v = place_fits su w.told i node.state.past good.bounded is.stands good.run good.fit in
-    let a : PlaceFits (place_of node.state.setup i g) v = subst (λ (s : Setup). PlaceFits (place_of s i g) v) (sym is.setup) fits in
-    (v, subst (λ j. PlaceFits (place_of node.state.setup j g) v) (sym is.id) a)
+    let fits : PlaceFits (place_of su.config i g) v = place_fits su w.told i node.state.past good.bounded is.stands good.run good.fit in
+    let a : PlaceFits (place_of node.state.config i g) v = subst (λ (c : Config). PlaceFits (place_of c i g) v) (sym is.config) fits in
+    (v, subst (λ j. PlaceFits (place_of node.state.config j g) v) (sym is.id) a)
 
 pub propose_good : (su : Setup) (w : World PastNode History) (from to v : ℕ) (r : Request) (node : Node PastNode) → GoodWorld su w → IsLiar su from to
     → IsNumber v → HasRequestSpelling r → longest w.nodes ≡ Some node → GoodWorld su (with_sent w from to (message_text (proposal_of (past_place node.state) v r)))

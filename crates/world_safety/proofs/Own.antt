@@ -12,9 +12,26 @@ use Rattle.safety_model.specs.declared.fact.Fact.TheVariants.{Accepted, Prepared
 use Rattle.safety_model.specs.State.{Setup, block_or, config_of, delivered, delivered_by, entered_view, height, last_delivered, last_or, ledger, left, left_view, tip, view}
 use Rattle.safety_model.specs.Rules.{actor}
 use Rattle.safety_model.proofs.StateFacts.{moves_actor, views_stay}
-use Rattle.world_model.specs.Worlds.{stored_in}
+use Rattle.node_model.specs.Entries.{
+  Accepts,
+  Came,
+  Commits,
+  Delivers,
+  Did,
+  Enters,
+  Entry,
+  Leaves,
+  Opened,
+  Prepares,
+  Sent,
+  Signed,
+  facts_in,
+  facts_of,
+  stored_in,
+  stored_of,
+}
 use Rattle.world_safety.specs.Resting.{own}
-use Rattle.world_safety.specs.Safe.{stored}
+use Rattle.world_safety.specs.Safe.{stored, stored_with}
 
 delivered_other : (i : ℕ) (f : Fact) → (actor f == i) ≡ false → delivered_by i f ≡ []
 delivered_other i (Delivered j b proof) h = rw h refl
@@ -85,14 +102,14 @@ own_others i [] h all = refl
 own_others i (f ∷ fs) h all = own_other i f (fs ++ h) all.0 ∙ own_others i fs h all.1
 
 -- facts that a node makes stand behind those that it had
-pub stored_more : (su : Setup) (i : ℕ) (fs : List Fact) (h : History) → AllByRecursion (λ f. (actor f == i) ≡ true) (reverse fs) → stored su i (reverse fs ++ h) ≡ stored su i h ++ flat_map stored_in fs
+pub stored_more : (su : Setup) (i : ℕ) (fs : List Fact) (h : History) → AllByRecursion (λ f. (actor f == i) ≡ true) (reverse fs) → stored su i (reverse fs ++ h) ≡ stored su i h ++ flat_map stored_with fs
 stored_more su i fs h mine =
     let order : reverse (own i (reverse fs ++ h)) ≡ reverse (own i h) ++ fs =
     ap reverse (own_mine i (reverse fs) h mine) ∙ reverse-append (reverse fs) (own i h) ∙ ap (λ (gs : List Fact). reverse (own i h) ++ gs) (reverse-reverse fs) in
-    ap (λ (more : List (Block × Proof)). (su.genesis, proof_of.Raft) ∷ more) (ap (flat_map stored_in) order ∙ flat_map-append stored_in (reverse (own i h)) fs)
+    ap (λ (more : List (Block × Proof)). (su.genesis, proof_of.Raft) ∷ more) (ap (flat_map stored_with) order ∙ flat_map-append stored_with (reverse (own i h)) fs)
 
 -- the blocks of one fact of the node
-blocks_one : (i : ℕ) (f : Fact) → (actor f == i) ≡ true → map (λ (entry : Block × Proof). entry.0) (flat_map stored_in (f ∷ [])) ≡ delivered_by i f
+blocks_one : (i : ℕ) (f : Fact) → (actor f == i) ≡ true → map (λ (entry : Block × Proof). entry.0) (flat_map stored_with (f ∷ [])) ≡ delivered_by i f
 blocks_one i (Accepted j e v s d) is = refl
 blocks_one i (Prepared j e v s d) is = refl
 blocks_one i (Left j e v) is = refl
@@ -101,11 +118,11 @@ blocks_one i (Entered j e v x choice) is = refl
 blocks_one i (Delivered j b proof) is = rw is refl
 
 blocks_of : List Fact → List Block
-blocks_of fs = map (λ (entry : Block × Proof). entry.0) (flat_map stored_in fs)
+blocks_of fs = map (λ (entry : Block × Proof). entry.0) (flat_map stored_with fs)
 
 blocks_append : (fs gs : List Fact) → blocks_of (fs ++ gs) ≡ blocks_of fs ++ blocks_of gs
 unfolding blocks_of
-blocks_append fs gs = ap (map (λ (entry : Block × Proof). entry.0)) (flat_map-append stored_in fs gs) ∙ map-append (λ (entry : Block × Proof). entry.0) (flat_map stored_in fs) (flat_map stored_in gs)
+blocks_append fs gs = ap (map (λ (entry : Block × Proof). entry.0)) (flat_map-append stored_with fs gs) ∙ map-append (λ (entry : Block × Proof). entry.0) (flat_map stored_with fs) (flat_map stored_with gs)
 
 blocks_own : (i : ℕ) (h : History) → blocks_of (reverse (own i h)) ≡ delivered i h
 unfolding blocks_of
@@ -121,3 +138,21 @@ blocks_own i (f ∷ h) = go (actor f == i) refl (blocks_own i h)
 pub stored_blocks : (su : Setup) (i : ℕ) (h : History) → map (λ (entry : Block × Proof). entry.0) (stored su i h) ≡ ledger su i h
 unfolding blocks_of
 stored_blocks su i h = ap (λ (bs : List Block). su.genesis ∷ bs) (blocks_own i h)
+
+-- what the facts of entries add is what the entries store
+entry_stored : (entry : Entry) → flat_map stored_with (facts_in entry) ≡ stored_in entry
+entry_stored Opened = refl
+entry_stored (Came event accepts) = refl
+entry_stored (Did (Accepts i e v s b)) = refl
+entry_stored (Did (Prepares i e v s d)) = refl
+entry_stored (Did (Delivers i b proof)) = refl
+entry_stored (Did (Leaves i e v)) = refl
+entry_stored (Did (Enters i e v x choice)) = refl
+entry_stored (Signed (Commits m) accepts) = refl
+entry_stored (Sent receivers message) = refl
+
+pub made_stored : (made : List Entry) → flat_map stored_with (facts_of made) ≡ stored_of made
+made_stored [] = refl
+made_stored (entry ∷ made) =
+    flat_map-append stored_with (facts_in entry) (facts_of made)
+    ∙ ap₂ (λ (a b : List (Block × Proof)). a ++ b) (entry_stored entry) (made_stored made)

@@ -1,5 +1,5 @@
 -- Where a node stands, its last block and its last certificate fit.
-use Rattle.std.proofs.Common.{◌≡◌, ℕ, ◌≤◌, ◌<◌, ◌^◌, refl, sym, subst, ap, ◌∙◌, Option, Some, None, arith}
+use Rattle.std.proofs.Common.{◌≡◌, ℕ, ◌+◌, ◌≤◌, ◌<◌, ◌^◌, refl, sym, subst, ap, ◌∙◌, Option, Some, None, arith}
 use Rattle.std.specs.List.{AllByRecursion}
 use Rattle.sha2.proofs.Facts256.{length-sha256}
 use Rattle.ord_types.specs.Genesis.{genesis_block}
@@ -13,8 +13,9 @@ use Rattle.safety_model.specs.State.{Setup, block_or, config_of, delivered, heig
 use Rattle.safety_model.specs.declared.fact.Fact.TheVariants.{Delivered}
 use Rattle.safety_model.proofs.Chains.{config_stays}
 use Rattle.safety_model.proofs.Deliveries.{last_stands, tip_number}
-use Rattle.node_model.specs.Past.{Past, facts_of}
-use Rattle.node_model.specs.Keeping.{cert_in, cert_of_last, place_of}
+use Rattle.chan_config.specs.Places.{cert_in}
+use Rattle.node_model.specs.Entries.{Past, facts_of}
+use Rattle.node_model.specs.Keeping.{cert_of_last, last_block, place_of}
 use Rattle.world_safety.specs.Fits.{CertFits, FactFits, ProofFits}
 use Rattle.world_safety.specs.Steps.{IsBounded, NodeStands}
 use Rattle.world_safety.proofs.Fitting.{PlaceFits, all_stands}
@@ -49,7 +50,7 @@ last_fits h i fit cert None is at = absurd (cc)
 last_fits h i fit cert (Some last) is at = proof_cert last.1 cert (all_stands FactFits h (Delivered i last.0 last.1) fit (last_stands i h last.0 last.1 is)).behind at
 
 -- so the place fits
-pub place_fits : (su : Setup) (h : History) (i : ℕ) (past : Past) → IsBounded su → NodeStands su h i past → IsRun su h → AllByRecursion FactFits h → PlaceFits (place_of su i (facts_of past)) (view i (config_of su i (facts_of past)).number (facts_of past))
+pub place_fits : (su : Setup) (h : History) (i : ℕ) (past : Past) → IsBounded su → NodeStands su h i past → IsRun su h → AllByRecursion FactFits h → PlaceFits (place_of su.config i (facts_of past)) (view i (config_of su i (facts_of past)).number (facts_of past))
 unfolding place_of header_hash
 place_fits su h i past bounded node run fit =
     let g = facts_of past in
@@ -61,12 +62,15 @@ place_fits su h i past bounded node run fit =
     let number = tip_number su h run (genesis_first su bounded) i in
     let below : (tip su i h).header.number < 2 ^ 62 = tip_below su h i bounded fit (last_delivered i h) refl in
     let numbers : (tip su i h).header.number ≡ (tip su i g).header.number = ap (λ (b : Block). b.header.number) tip_is in
+    let last : (last_block su.config i g).meta.decided ≡ (tip su i g).meta.decided =
+    ap (λ (b : Block). (block_or b (last_delivered i g)).meta.decided) (sym bounded.genesis.block) in
+    let made : (last_block su.config i g).meta.decided + 1 ≤ height i g = omega arith in
     record {
       view = first_view_of su h i (config_of su i g).number past node;
       config = subst (λ (c : Config). IsNumber c.number) (sym (config_stays su.config (delivered i g))) bounded.number;
       members = subst (λ (c : Config). HasIdsSpelling c.members) (sym (config_stays su.config (delivered i g))) bounded.members;
       last = length-sha256 _;
-      decided = omega arith;
+      decided = made;
       small = omega arith;
       last_cert = λ cert at. last_fits h i fit cert (last_delivered i g) last_is at;
     }

@@ -36,7 +36,7 @@ use Rattle.world_model.specs.Turns.{ordinary}
 use Rattle.world_model.specs.Worlds.{Entry, keys_of, letter_from}
 use Rattle.world_safety.specs.Resting.{has_ground}
 use Rattle.world_safety.specs.Safe.{IsAmong, IsNoRaftMessage, IsReadable, RestsIn}
-use Rattle.world_safety.specs.Steps.{IsBrought, IsGoodEvent, IsGoodPost, SignsFit}
+use Rattle.world_safety.specs.Steps.{IsBrought, IsGoodEvent, SignsFit}
 use Rattle.world_safety.proofs.Delivering.{some_same}
 use Rattle.world_safety.proofs.Nodes.{rests_over}
 
@@ -80,17 +80,17 @@ no_raft_ground h from (wire.RaftAppend m) is = absurd (cc)
 no_raft_ground h from (wire.RaftAppendReply m) is = absurd (cc)
 no_raft_ground h from (wire.RaftBlock m) is = absurd (cc)
 
-pub posted_in : (su : Setup) (h : History) (from to : ℕ) (m : Message) → is_in from su.config.members ≡ true → IsGoodPost su.config.members h from (record { to = to; message = m })
+pub posted_in : (su : Setup) (h : History) (from to : ℕ) (m : Message) → is_in from su.config.members ≡ true
+    → is_in to su.config.members ≡ true → has_ground h from m ≡ true → HasMessageSpelling m
     → EntryIn su h (record { from = from; to = to; bytes = message_text m; came = false })
-posted_in su h from to m member post =
-    let good = post.message in
-    let read = text_read m good.spelled in
+posted_in su h from to m member receiver ground spelled =
+    let read = text_read m spelled in
     record {
-      among = (member, post.to);
+      among = (member, receiver);
       readable = λ correct. subst IsSome (sym read) refl;
-      rests = λ n at. or_right _ _ (text_is (λ n. has_ground h from n ≡ true) m n good.spelled at good.ground);
-      no_raft = ap is_raft_if_any read ∙ no_raft_ground h from m good.ground;
-      spelled = λ n at. text_is HasMessageSpelling m n good.spelled at good.spelled;
+      rests = λ n at. or_right _ _ (text_is (λ n. has_ground h from n ≡ true) m n spelled at ground);
+      no_raft = ap is_raft_if_any read ∙ no_raft_ground h from m ground;
+      spelled = λ n at. text_is HasMessageSpelling m n spelled at spelled;
     }
 
 -- who lies is a Byzantine member, to a member
@@ -164,11 +164,13 @@ letter_is from m letter is = go (vote_in m) refl is
 
 -- so what it brings to its receiver rests on a fact, or is of a Byzantine member, and has a spelling
 pub entry_brings : (su : Setup) (h : History) (e : Entry) → EntryIn su h e → IsGoodEvent su h (letter_from e)
-entry_brings su h e is letter at = go (message_in e.bytes) refl at
+entry_brings su h e is = record { offer = λ rs at. absurd (cc); letter = λ letter at. go letter (message_in e.bytes) refl at }
   where
-    go : (o : Option Message) → message_in e.bytes ≡ o → option_map (λ message. record { from = e.from; message = message }) (option_and_then vote_in o) ≡ Some letter → IsBrought su h letter
-    go None read at = absurd (cc)
-    go (Some m) read at =
+    go : (letter : Letter) (o : Option Message) → message_in e.bytes ≡ o
+        → option_map (λ message. record { from = e.from; message = message }) (option_and_then vote_in o) ≡ Some letter
+        → IsBrought su h letter
+    go letter None read at = absurd (cc)
+    go letter (Some m) read at =
         let parts = letter_is e.from m letter at in
         let ground : (is_in e.from su.byzantine || has_ground h e.from (on_wire letter.message)) ≡ true = subst (λ m. (is_in e.from su.byzantine || has_ground h e.from m) ≡ true) (sym parts.1) (is.rests m read) in
         record {

@@ -51,7 +51,7 @@ world_safe w is =
     let good = is.good in
     let here : su ≡ setup_of w = good.first in
     let among = sym good.members in
-    let nodes = all_map (NodeIn su w.told w.seals) (IsNodeOf su w.told) (λ node p. record { setup = p.setup; id = p.id; facts = p.stands.own; stored = p.stored; blocks = ap (map (λ (entry : Block × Proof). entry.0)) p.stored ∙ stored_blocks su node.id w.told }) w.nodes good.nodes in
+    let nodes = all_map (NodeIn su w.told w.seals) (IsNodeOf su w.told) (λ node p. record { config = p.config; id = p.id; facts = p.stands.own; stored = p.stored; blocks = ap (map (λ (entry : Block × Proof). entry.0)) p.stored ∙ stored_blocks su node.id w.told }) w.nodes good.nodes in
     let agreement : NoCollision su w.told → Agreement su w.told = λ apart. runs_agree su w.told good.bounded.genesis good.run (all_fit w.told good.fit) apart in
     let backed = all_map (IsSealIn su w.told) (IsBackedSeal (correct_in su) w.told) (λ seal is. seal_backed su.config.members su.byzantine (correct_in su) w.told seal (any_stranger su w seal.signer good) is) w.seals good.sealed in
     let network : AllByRecursion (EntryIn (setup_of w) w.told) w.network = subst (λ (su : Setup). AllByRecursion (EntryIn su w.told) w.network) here good.network in

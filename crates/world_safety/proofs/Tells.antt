@@ -14,14 +14,14 @@ use Rattle.script_play.specs.declared.ending.Ending.{Ending}
 use Rattle.script_play.specs.declared.ending.Ending.TheVariants.{Limit}
 use Rattle.script_play.specs.Turns.{Turn}
 use Rattle.script_play.specs.Worlds.{worlds_after}
-use Rattle.node_model.specs.Deeds.{fact_of}
 use Rattle.node_model.specs.Keeping.{PastNode}
-use Rattle.node_model.specs.Steps.{Event}
+use Rattle.node_model.specs.declared.event.Event.{Event}
+use Rattle.node_model.specs.Entries as entries
 use Rattle.world_model.specs.Histories.{past_setting}
 use Rattle.world_model.specs.Pools.{answer}
 use Rattle.world_model.specs.Texts.{deliver_text, fact_text, flush_text, limit_text, show_text, stopped_text, tick_text}
 use Rattle.world_model.specs.Turns.{counted, deliver_turn, deliveries, delivery, delivery_to, event_by, event_goes, event_turn, first_outcome, flush_turn, flushes, goes_on, is_running, most_entries, refuses, says, show_turn, shows, start_turn, stop_at_turn, stop_turn, submit_turn, submitted, then_on, tick_at, ticks, unless_stopped, with_later}
-use Rattle.world_model.specs.Worlds.{Entry, GoesOn, Node, Outcome, Stops, deeds_in, entry, is_waiting, letter_from, making, marked, node_at, node_started, running_at, tick_of, with_node, world_after, world_stopped_in}
+use Rattle.world_model.specs.Worlds.{Entry, GoesOn, Node, Outcome, Stops, entry, is_waiting, letter_from, making, marked, node_at, node_started, running_at, tick_of, with_node, world_after, world_stopped_in}
 use Rattle.world_safety.specs.Telling.{AreStops, Happened, IsSo, IsStopIn, NoBlock, NoEntry, Reply, Stopped, Went, end_text, event_text, events_text, facts_in, facts_of, histories_after, last_of, node_in, reply_text, told_in}
 use Rattle.world_safety.specs.Telling as it
 use Rattle.world_safety.specs.Within.{PastWorld, after_delivery, after_event, after_event_by, after_letter, after_outcome, after_start, after_stop, after_stop_at, after_submit, after_tick, in_deliver, in_deliveries, in_flush, in_flushes, in_tick, in_ticks, unless_cut}
@@ -151,30 +151,31 @@ module _ (number : ℕ) where
     pub ends : Ends after happened turn.printed turn.next
 
   went_ends : (w : PastWorld) (node : Node PastNode) (event : Event) → IsEvent w (world_after past_setting w node (making past_setting w node event)) (event_goes past_setting number w node event)
-  went_ends w node event = record { happened = Went (making past_setting w node event).facts; told = refl; stop = tt; ends = go (nat_lt most_entries (length after.network)) }
+  went_ends w node event = record { happened = Went (entries.facts_of (making past_setting w node event)); told = refl; stop = tt; ends = go (nat_lt most_entries (length after.network)) }
     where
       after : PastWorld
       after = world_after past_setting w node (making past_setting w node event)
 
       blocks : List ℕ
-      blocks = flat_map (fact_text number) (making past_setting w node event).facts
+      blocks = flat_map (fact_text number) (entries.facts_of (making past_setting w node event))
 
       turn : Bool → Turn PastWorld
       turn t = cond t (record { printed = blocks ++ limit_text number most_entries; next = Err (Limit most_entries) }) (says blocks after)
 
-      go : (t : Bool) → Ends after (Went (making past_setting w node event).facts) (turn t).printed (turn t).next
+      go : (t : Bool) → Ends after (Went (entries.facts_of (making past_setting w node event))) (turn t).printed (turn t).next
       go true = (refl, refl)
       go false = (refl, refl)
 
   -- the node is stopped in it
-  cut_ends : (w : PastWorld) (node : Node PastNode) (event : Event) (kept signed : ℕ)
-      → IsEvent w (world_stopped_in past_setting w node event kept signed) (says (stopped_text number node.id) (world_stopped_in past_setting w node event kept signed))
-  cut_ends w node event kept signed =
-      record { happened = Stopped node.id (map fact_of (take kept (deeds_in past_setting w node event))); told = refl; stop = still_with _ w.nodes refl; ends = (refl, refl) }
+  cut_ends : (w : PastWorld) (node : Node PastNode) (event : Event) (cut : ℕ)
+      → IsEvent w (world_stopped_in past_setting w node event cut)
+      (says (stopped_text number node.id) (world_stopped_in past_setting w node event cut))
+  cut_ends w node event cut =
+      record { happened = Stopped node.id (entries.facts_of (take cut (making past_setting w node event))); told = refl; stop = still_with _ w.nodes refl; ends = (refl, refl) }
 
   event_by_ends : (w : PastWorld) (node : Node PastNode) (event : Event) (outcome : Outcome) → IsEvent w (after_event_by w node event outcome) (event_by past_setting number w node event outcome)
   event_by_ends w node event GoesOn = went_ends w node event
-  event_by_ends w node event (Stops kept signed) = cut_ends w node event kept signed
+  event_by_ends w node event (Stops cut) = cut_ends w node event cut
 
   event_ends : (w : PastWorld) (node : Node PastNode) (event : Event) → IsEvent w (after_event w node event) (event_turn past_setting number w node event)
   unfolding event_turn
@@ -189,7 +190,7 @@ module _ (number : ℕ) where
       go false = went_ends w node event
 
   pub tick_ends : (w : PastWorld) (node : Node PastNode) → IsEvent w (after_tick w node) (tick_at past_setting number w (Some node))
-  tick_ends w node = event_ends w node (tick_of past_setting.returns.ways node)
+  tick_ends w node = event_ends w node (tick_of past_setting.keeping node)
 
   -- the world before may be another with the same history; a lost entry changes nothing
   letter_ends : (k : ℕ) (e : Entry) (w : PastWorld) (o : Option (Node PastNode)) → IsEvent w (after_letter k e w o) (delivery_to past_setting number k e w o)

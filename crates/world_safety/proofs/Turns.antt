@@ -10,11 +10,12 @@ use Rattle.script.specs.declared.command.Command.TheVariants.{Genesis, Submit, R
 use Rattle.script.specs.declared.command.Range.{Range}
 use Rattle.script_play.specs.declared.ending.Ending.{Ending}
 use Rattle.script_play.specs.Worlds.{worlds, worlds_after}
-use Rattle.node_model.specs.Keeping.{PastNode, past_ways}
-use Rattle.world_model.specs.Histories.{past_setting}
+use Rattle.node_model.specs.Keeping.{PastNode, core_of_past}
+use Rattle.world_model.specs.Histories.{past_keeping, past_setting}
 use Rattle.world_model.specs.Turns.{delivery, is_running, most_flushed, ordinary, tick_at, submitted}
 use Rattle.world_model.specs.Worlds.{Entry, Node, Outcome, entry, is_waiting, letter_from, marked, node_at, node_started, running, running_at, tick_of, offer_to}
 use Rattle.world_safety.specs.Within.{PastWorld, after_delivery, after_letter, after_start, after_stop, after_stop_at, after_submit, after_tick, in_deliver, in_deliveries, in_flush, in_flushes, in_tick, in_ticks, unless_cut, where_node, where_stopped, worlds_in, worlds_in_turn}
+use Rattle.world_safety.proofs.Delivering.{some_same}
 use Rattle.world_safety.proofs.LyingWithin.{lied_good, proposed_good, sealed_good, voted_good}
 use Rattle.world_safety.proofs.Lists.{all_map, all_mapped}
 use Rattle.world_safety.proofs.Reading.{EntryIn, each_byte, entry_brings, ordinary_bytes, pool_spelled}
@@ -40,8 +41,8 @@ module _ (su : Setup) (number : ℕ) where
       go printed (Err ending) ends = tt
 
   -- TICK
-  offer_fits : (node : Node PastNode) → All HasRequestSpelling node.pool → All HasRequestSpelling (offer_to past_ways node)
-  offer_fits node fits = go (may_propose (past_ways.place node.state) (past_ways.view node.state))
+  offer_fits : (node : Node PastNode) → All HasRequestSpelling node.pool → All HasRequestSpelling (offer_to past_keeping node)
+  offer_fits node fits = go (may_propose (core_of_past node.state).place (core_of_past node.state).view)
     where
       go : (t : Bool) → All HasRequestSpelling (cond t (offer node.pool) [])
       go true = All-take HasRequestSpelling 1 node.pool fits
@@ -60,7 +61,12 @@ module _ (su : Setup) (number : ℕ) where
   node_in w id node good is = found_node (NodeIn su w.told w.seals) (λ node. node.id == id) w.nodes node good.nodes (running_is (node_at id w.nodes) node is)
 
   tick_good : (w : PastWorld) (node : Node PastNode) → GoodWorld su w → NodeIn su w.told w.seals node → GoodWorld su (after_tick w node)
-  tick_good w node good it = event_keeps su w node (tick_of past_setting.returns.ways node) good it (offer_fits node it.pool)
+  tick_good w node good it =
+      event_keeps su w node (tick_of past_keeping node) good it
+      (record {
+        offer = λ rs at. subst (All HasRequestSpelling) (some_same at) (offer_fits node it.pool);
+        letter = λ letter at. absurd (cc);
+      })
 
   in_tick_good : (id : ℕ) (w : PastWorld) (o : Option (Node PastNode)) (rest : PastWorld → List PastWorld) → GoodWorld su w → running_at id w.nodes ≡ o
       → ((next : PastWorld) → GoodWorld su next → AllByRecursion (GoodWorld su) (rest next)) → AllByRecursion (GoodWorld su) (in_tick number w o rest)
@@ -155,17 +161,17 @@ module _ (su : Setup) (number : ℕ) where
   submit_good : (w : PastWorld) (node : Node PastNode) (bytes : List ℕ) → IsBytes bytes → GoodWorld su w → NodeIn su w.told w.seals node → GoodWorld su (after_submit w node bytes)
   submit_good w node bytes fits good is =
       renewed_good su w (submitted node bytes) good
-      (record { setup = is.setup; id = is.id; correct = is.correct; stands = is.stands; pool = pool_spelled node.pool bytes fits is.pool; stored = is.stored; sealed = is.sealed })
+      (record { config = is.config; id = is.id; correct = is.correct; stands = is.stands; pool = pool_spelled node.pool bytes fits is.pool; stored = is.stored; sealed = is.sealed })
 
   -- STOP AT A CALL and START
   stop_at_good : (w : PastWorld) (node : Node PastNode) → GoodWorld su w → NodeIn su w.told w.seals node → GoodWorld su (after_stop_at w node)
   stop_at_good w node good is =
       renewed_good su w (record node { armed = true }) good
-      (record { setup = is.setup; id = is.id; correct = is.correct; stands = is.stands; pool = is.pool; stored = is.stored; sealed = is.sealed })
+      (record { config = is.config; id = is.id; correct = is.correct; stands = is.stands; pool = is.pool; stored = is.stored; sealed = is.sealed })
 
   start_good : (w : PastWorld) (node : Node PastNode) → GoodWorld su w → NodeIn su w.told w.seals node → GoodWorld su (after_start w node)
   start_good w node good is =
-      renewed_good su w (node_started node) good (record { setup = is.setup; id = is.id; correct = is.correct; stands = is.stands; pool = is.pool; stored = is.stored; sealed = is.sealed })
+      renewed_good su w (node_started node) good (record { config = is.config; id = is.id; correct = is.correct; stands = is.stands; pool = is.pool; stored = is.stored; sealed = is.sealed })
 
   -- A COMMAND
   if_good : (t : Bool) (worlds others : List PastWorld) → AllByRecursion (GoodWorld su) worlds → AllByRecursion (GoodWorld su) others → AllByRecursion (GoodWorld su) (cond t worlds others)

@@ -15,11 +15,12 @@ use Rattle.signer_edge.specs.Seals.{is_sealed}
 use Rattle.signer_edge.specs.Signing.{KeepsAccepted}
 use Rattle.signer_edge.specs.declared.seals.Seal.{Seal}
 use Rattle.signer_edge.proofs.SealFacts.{is_sealed-grown}
-use Rattle.node_model.specs.Past.{Past}
+use Rattle.node_model.specs.Entries.{Past}
 use Rattle.node_model.specs.Keeping.{PastNode}
-use Rattle.world_model.specs.Worlds.{Entry, Node, Outcome, World, entry, seals_of, stored_in, with_node}
+use Rattle.world_model.specs.Worlds.{Entry, Node, Outcome, World, entry, seals_of, with_node}
 use Rattle.world_safety.specs.Certified.{IsCertifiedFact}
-use Rattle.world_safety.specs.Safe.{IsAllowedSeal, IsPreparedStatement, ids_of, setup_of, stored}
+use Rattle.world_safety.specs.Resting.{IsPreparedStatement}
+use Rattle.world_safety.specs.Safe.{IsAllowedSeal, ids_of, setup_of, stored, stored_with}
 use Rattle.world_safety.specs.Steps.{IsBounded, NodeStands}
 use Rattle.world_safety.proofs.Lists.{all_append, all_map, all_mapped, all_reverse, all_within}
 use Rattle.world_safety.specs.Fits.{FactFits}
@@ -27,7 +28,7 @@ use Rattle.world_safety.proofs.Own.{own_others}
 use Rattle.world_safety.proofs.Backing.{seal_over}
 use Rattle.world_safety.proofs.Nodes.{other_did}
 use Rattle.world_safety.proofs.Reading.{EntryIn}
-use Rattle.world_safety.proofs.Sealing.{IsSealedNode, facts_certified, node_sealed}
+use Rattle.world_safety.proofs.Sealing.{IsSealedPast, facts_certified, past_sealed}
 
 -- the members that aren't Byzantine
 abbrev pub correct_in : Setup → List ℕ
@@ -38,13 +39,13 @@ IsSealIn su h seal = IsAllowedSeal su.config.members su.byzantine (correct_in su
 
 -- a node of the world, where these are all facts, and this is the box of seals
 pub record NodeIn (su : Setup) (h : History) (box : List Seal) (node : Node PastNode) : Type 0 where
-  pub setup : node.state.setup ≡ su
+  pub config : node.state.config ≡ su.config
   pub id : node.state.id ≡ node.id
   pub correct : is_in node.id (correct_in su) ≡ true
   pub stands : NodeStands su h node.id node.state.past
   pub pool : All HasRequestSpelling node.pool
   pub stored : node.ledger ≡ stored su node.id h
-  pub sealed : IsSealedNode su.config (is_sealed box) node.state
+  pub sealed : IsSealedPast su.config node.id (is_sealed box) node.state.past
 
 -- no two ids are equal
 abbrev pub Apart : List ℕ → Type 0
@@ -126,7 +127,7 @@ other_over su h i j past (f ∷ fs) all other st = other_did su (fs ++ h) j past
 -- they change nothing in the ledger of another
 stored_others : (su : Setup) (i j : ℕ) (fs : List Fact) (h : History) → AllByRecursion (λ f. (actor f == i) ≡ true) fs → (j == i) ≡ false → stored su j (fs ++ h) ≡ stored su j h
 stored_others su i j fs h all other =
-    ap (λ (facts : History). (su.genesis, proof_of.Raft) ∷ flat_map stored_in (reverse facts))
+    ap (λ (facts : History). (su.genesis, proof_of.Raft) ∷ flat_map stored_with (reverse facts))
     (own_others j fs h (all_map (λ f. (actor f == i) ≡ true) (λ f. (actor f == j) ≡ false) (λ f is. not_mine i j f is other) fs all))
 
 -- A NODE IN PLACE OF THE ONE OF ITS ID
@@ -198,13 +199,13 @@ goes_on_good su w new facts network signed good is =
           (all_map (λ f. (actor f == i) ≡ true) (λ f. is_in (actor f) (correct_in su) ≡ true) (λ f mine. subst (λ id. is_in id (correct_in su) ≡ true) (sym (eqb-true (actor f) i mine)) is.correct) (reverse facts) acts) good.actors;
       nodes = with_new (NodeIn su h w.seals) (NodeIn su g box) new
           (λ other not_it before. record {
-            setup = before.setup;
+            config = before.config;
             id = before.id;
             correct = before.correct;
             stands = other_over su h i other.id other.state.past (reverse facts) acts not_it before.stands;
             pool = before.pool;
             stored = before.stored ∙ sym (stored_others su i other.id (reverse facts) h acts not_it);
-            sealed = node_sealed (is_sealed w.seals) (is_sealed box) grown su.config other.state before.sealed;
+            sealed = past_sealed (is_sealed w.seals) (is_sealed box) grown su.config other.id other.state.past before.sealed;
           })
           is.node w.nodes (nodes_apart su w good) good.nodes;
       network = is.sent;
