@@ -1,56 +1,19 @@
 -- Every event keeps a good world, also one in which its node is stopped.
-use Rattle.std.proofs.Common.{
-  ◌≡◌,
-  ℕ,
-  Bool,
-  true,
-  false,
-  List,
-  [],
-  ◌∷◌,
-  ◌++◌,
-  cond,
-  map,
-  reverse,
-  take,
-  refl,
-  sym,
-  subst,
-  ap,
-  ◌∙◌,
-}
+use Rattle.std.proofs.Common.{◌≡◌, ℕ, Bool, true, false, List, [], ◌∷◌, ◌++◌, cond, reverse, take, refl, sym, subst, ap, ◌∙◌}
 use Rattle.std.specs.Prelude.{◌==◌, not}
-use Rattle.std.specs.List.{AllByRecursion, flat_map}
+use Rattle.std.specs.List.{AllByRecursion}
 use Rattle.std.proofs.lemmas.List.Elements.{All-filter, All-nil}
 use Rattle.ord_types.specs.Grammar.{HasRequestSpelling, IsWord}
 use Rattle.ord_types.specs.Members.{is_in}
 use Rattle.ord_types.specs.declared.values.Proof.{Proof}
 use Rattle.safety_model.specs.Blocks.{Block}
 use Rattle.safety_model.specs.Facts.{History}
-use Rattle.safety_model.specs.declared.fact.Fact.{Fact}
 use Rattle.safety_model.specs.State.{Setup}
 use Rattle.safety_model.specs.Rules.{actor}
 use Rattle.signer_edge.specs.Seals.{is_sealed}
 use Rattle.bft_wire.specs.Spelling.{message_text}
 use Rattle.node_model.specs.declared.event.Event.{Event}
-use Rattle.node_model.specs.Entries.{
-  Came,
-  Commits,
-  Did,
-  Entry,
-  Opened,
-  Past,
-  Post,
-  Sent,
-  Signed,
-  facts_in,
-  facts_of,
-  posts_in,
-  posts_of,
-  statements_in,
-  statements_of,
-  stored_of,
-}
+use Rattle.node_model.specs.Entries.{Came, Commits, Did, Entry, Opened, Post, Sent, Signed, facts_in, facts_of, posts_in, posts_of, statements_in, statements_of, stored_of}
 use Rattle.node_model.specs.Keeping.{PastNode, with_entries, with_entry}
 use Rattle.world_model.specs.Histories.{past_keeping, past_setting}
 use Rattle.world_model.specs.Pools.{has_id}
@@ -72,14 +35,13 @@ use Rattle.world_model.specs.Worlds.{
   world_stopped,
   world_stopped_in,
 }
-use Rattle.world_safety.specs.Certified.{IsCertifiedFact}
 use Rattle.world_safety.specs.Resting.{IsPreparedStatement}
-use Rattle.world_safety.specs.Safe.{stored, stored_with}
+use Rattle.world_safety.specs.Safe.{stored}
 use Rattle.world_safety.specs.Within.{after_event, after_event_by, after_outcome}
-use Rattle.world_safety.specs.Steps.{IsAllowedStep, IsGoodEntry, IsGoodEvent, StandsIn}
+use Rattle.world_safety.specs.AllowedSteps.{IsAllowedStep, IsGoodEntry, IsGoodEvent, StandsIn}
 use Rattle.world_safety.proofs.Ids.{member_has}
 use Rattle.world_safety.proofs.Lists.{all_append, all_flat, all_map, all_mapped, all_reverse}
-use Rattle.world_safety.proofs.Moments.{AreMade, Now, later_moment, made_allowed, made_front}
+use Rattle.world_safety.proofs.StepMoments.{AreMade, Now, later_moment, made_allowed, made_front}
 use Rattle.world_safety.proofs.Own.{made_stored, stored_more}
 use Rattle.world_safety.proofs.Reading.{EntryIn, entry_over, posted_in, seals_fit}
 use Rattle.world_safety.proofs.Sealing.{AllSealed, IsSealedPast, box_grows, step_sealed}
@@ -91,7 +53,7 @@ use Rattle.world_safety.proofs.Stepping.{
   with_more,
   with_past,
 }
-use Rattle.world_safety.proofs.Worlds.{GoodWorld, NodeIn, correct_is, goes_on_good, later_good}
+use Rattle.world_safety.proofs.GoodWorlds.{GoodWorld, NodeIn, correct_is, goes_on_good, later_good}
 
 -- the moment at which an event of a node comes
 abbrev pub now : World PastNode History → Node PastNode → Now
@@ -178,15 +140,18 @@ entry_prepared su h i (Signed (Commits m) accepts) good = (
 entry_prepared su h i (Sent receivers message) good = tt
 
 -- what the world then has
-record HasWent (su : Setup) (w : World PastNode History) (node : Node PastNode) (made : List Entry) : Type 0 where
-  mine : AllByRecursion (λ f. (actor f == node.id) ≡ true) (facts_of made)
-  stands : StandsIn su (reverse (facts_of made) ++ w.told) node.id (with_entries made node.state)
-  stored : node.ledger ++ stored_of made ≡ stored su node.id (reverse (facts_of made) ++ w.told)
-  posted : AllByRecursion (EntryIn su (reverse (facts_of made) ++ w.told)) (sent_by node.id (posts_of made))
-  prepared : AllByRecursion (IsPreparedStatement (reverse (facts_of made) ++ w.told) node.id) (statements_of made)
-  sealed : AllSealed su node.id (keys_of w.seals node.id) (box_grows w.seals node.id) [] (now w node) made
+record HasWent (su : Setup) (w : World PastNode History) (node : Node PastNode) (made : List Entry) : Type 0
+  where
+    mine : AllByRecursion (λ f. (actor f == node.id) ≡ true) (facts_of made)
+    stands : StandsIn su (reverse (facts_of made) ++ w.told) node.id (with_entries made node.state)
+    stored : node.ledger ++ stored_of made ≡ stored su node.id (reverse (facts_of made) ++ w.told)
+    posted : AllByRecursion (EntryIn su (reverse (facts_of made) ++ w.told)) (sent_by node.id (posts_of made))
+    prepared : AllByRecursion (IsPreparedStatement (reverse (facts_of made) ++ w.told) node.id)
+        (statements_of made)
+    sealed : AllSealed su node.id (keys_of w.seals node.id) (box_grows w.seals node.id) [] (now w node) made
 
-has_went : (su : Setup) (w : World PastNode History) (node : Node PastNode) (made : List Entry) → GoodWorld su w
+has_went : (su : Setup) (w : World PastNode History) (node : Node PastNode) (made : List Entry)
+    → GoodWorld su w
     → NodeIn su w.told w.seals node → HasMade su w node made → HasWent su w node made
 has_went su w node made good is all =
     let i = node.id in
@@ -208,13 +173,20 @@ has_went su w node made good is all =
           ∙ ap (λ (more : List (Block × Proof)). stored su i h ++ more) (sym (made_stored made))
           ∙ sym (stored_more su i facts h (all_reverse (λ f. (actor f == i) ≡ true) facts mine));
       posted = all_mapped (EntryIn su g)
-          (λ (post : Post). record { from = i; to = post.to; bytes = message_text post.message; came = false })
+          (λ (post : Post). record {
+            from = i;
+            to = post.to;
+            bytes = message_text post.message;
+            came =
+                false;
+          })
           (posts_of made)
           (all_flat (IsPosted su g i) posts_in made
           (all_map (IsGoodEntry su g i) (λ entry. AllByRecursion (IsPosted su g i) (posts_in entry))
           (entry_posted su g i member) made each));
       prepared = all_flat (IsPreparedStatement g i) statements_in made
-          (all_map (IsGoodEntry su g i) (λ entry. AllByRecursion (IsPreparedStatement g i) (statements_in entry))
+          (all_map (IsGoodEntry su g i) (λ entry. AllByRecursion (IsPreparedStatement g i)
+          (statements_in entry))
           (entry_prepared su g i) made each);
       sealed = step_sealed su w.seals i (now w node) made all is.sealed;
     }
@@ -246,11 +218,13 @@ went_keeps su w node event good is brought =
         stands = went.stands.node;
         pool = All-filter (λ r. not (has_id r.id (requests_of made))) HasRequestSpelling node.pool is.pool;
         stored = went.stored;
-        sealed = subst (IsSealedPast su.config i (is_sealed box)) (with_past made (now w node) node.state refl)
+        sealed =
+            subst (IsSealedPast su.config i (is_sealed box)) (with_past made (now w node) node.state refl)
             went.sealed.past;
       };
       sent = all_append (EntryIn su g) w.network (sent_by i (posts_of made))
-          (all_map (EntryIn su h) (EntryIn su g) (entry_over su h (reverse facts)) w.network good.network) went.posted;
+          (all_map (EntryIn su h) (EntryIn su g) (entry_over su h (reverse facts)) w.network good.network)
+          went.posted;
       prepared = went.prepared;
       certified = went.sealed.facts;
     })
@@ -269,7 +243,8 @@ stopped_keeps su w node made good is all =
     let went = has_went su w node made good is all in
     let opened = stands_opened su g i (with_entries made node.state) went.stands in
     let same = sym (with_more made Opened node.state) in
-    let stands : StandsIn su g i (with_entries (made ++ Opened ∷ []) node.state) = subst (StandsIn su g i) same opened in
+    let stands : StandsIn su g i (with_entries (made ++ Opened ∷ []) node.state) =
+    subst (StandsIn su g i) same opened in
     goes_on_good su w (node_stopped past_keeping node made) facts w.network (statements_of made) good
     (record {
       correct = is.correct;
@@ -308,15 +283,20 @@ cut_keeps su w node event cut good is brought =
 
 -- AN EVENT
 
-event_by_keeps : (su : Setup) (w : World PastNode History) (node : Node PastNode) (event : Event) (outcome : Outcome) → GoodWorld su w → NodeIn su w.told w.seals node → IsGoodEvent su w.told event
+event_by_keeps : (su : Setup) (w : World PastNode History) (node : Node PastNode) (event : Event)
+    (outcome : Outcome) → GoodWorld su w → NodeIn su w.told w.seals node → IsGoodEvent su w.told event
     → GoodWorld su (after_event_by w node event outcome)
 event_by_keeps su w node event GoesOn good is brought = went_keeps su w node event good is brought
 event_by_keeps su w node event (Stops cut) good is brought = cut_keeps su w node event cut good is brought
 
-pub event_keeps : (su : Setup) (w : World PastNode History) (node : Node PastNode) (event : Event) → GoodWorld su w → NodeIn su w.told w.seals node → IsGoodEvent su w.told event
+pub event_keeps : (su : Setup) (w : World PastNode History) (node : Node PastNode) (event : Event)
+    → GoodWorld su w → NodeIn su w.told w.seals node → IsGoodEvent su w.told event
     → GoodWorld su (after_event w node event)
 event_keeps su w node event good is brought = go node.armed
   where
-    go : (t : Bool) → GoodWorld su (cond t (after_event_by (after_outcome w) node event (first_outcome w.outcomes)) (after_event_by w node event GoesOn))
-    go true = event_by_keeps su (after_outcome w) node event (first_outcome w.outcomes) (later_good su w (after_outcome w).outcomes good) is brought
+    go : (t : Bool) → GoodWorld su
+        (cond t (after_event_by (after_outcome w) node event (first_outcome w.outcomes))
+        (after_event_by w node event GoesOn))
+    go true = event_by_keeps su (after_outcome w) node event (first_outcome w.outcomes)
+        (later_good su w (after_outcome w).outcomes good) is brought
     go false = event_by_keeps su w node event GoesOn good is brought

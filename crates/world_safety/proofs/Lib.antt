@@ -12,13 +12,13 @@ pub mod Reopening
 pub mod Placing
 pub mod Backing
 pub mod Sending
-pub mod Moments
-pub mod Making
+pub mod StepMoments
+pub mod StepRules
 pub mod Stepping
 pub mod Sealing
 pub mod Reading
 pub mod Proposing
-pub mod Worlds
+pub mod GoodWorlds
 pub mod Events
 pub mod Lying
 pub mod LyingWithin
@@ -28,6 +28,6 @@ pub mod Tells
 pub mod LyingTells
 pub mod Telling
 pub mod TooMany
-pub mod Turns
+pub mod GoodTurns
 pub mod Among
 pub mod Within

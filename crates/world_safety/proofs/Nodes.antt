@@ -1,17 +1,52 @@
 -- What a node is by the list of all facts, and that its acts keep it.
-use Rattle.std.proofs.Common.{◌≡◌, ℕ, Bool, true, false, ◌||◌, ◌&&◌, List, [], ◌∷◌, ◌++◌, cond, refl, sym, subst, ap, ◌∙◌, inl, inr, Option, Some, None, reverse}
+use Rattle.std.proofs.Common.{
+  ◌≡◌,
+  ℕ,
+  Bool,
+  true,
+  false,
+  ◌||◌,
+  ◌&&◌,
+  List,
+  [],
+  ◌∷◌,
+  ◌++◌,
+  cond,
+  refl,
+  sym,
+  subst,
+  ap,
+  ◌∙◌,
+  inl,
+  inr,
+  Option,
+  Some,
+  None,
+  reverse,
+}
 use Rattle.std.specs.Prelude.{◌==◌, not, filter}
 use Rattle.std.specs.List.{AllByRecursion, list_any}
 use Rattle.std.specs.Str.{bytes_eq}
-use Rattle.std.proofs.lemmas.Bool.{or_cases, or_left, or_parts, or_right, and_parts, and_from, eqb-true, eq-eqb}
+use Rattle.std.proofs.lemmas.Bool.{or_cases, or_left, or_parts, or_right, and_parts, and_from, eqb-true}
 use Rattle.ord_types.specs.Hashes.{block_hash}
 use Rattle.ord_types.specs.Members.{is_in, is_raft}
-use Rattle.ord_types.specs.declared.values.Proof.{Proof}
 use Rattle.safety_model.specs.Blocks.{Block, Config, config_at}
 use Rattle.safety_model.specs.Facts.{History, has, is_accepted, is_accepted_at, is_prepared}
 use Rattle.safety_model.specs.declared.fact.Fact.{Fact}
-use Rattle.safety_model.specs.declared.fact.Fact.TheVariants.{Accepted, Prepared, Left, Reported, Entered, Delivered}
-use Rattle.safety_model.specs.State.{Setup, block_or, config_of, delivered, height, is_inside, last_delivered, left, tip, view}
+use Rattle.safety_model.specs.declared.fact.Fact.TheVariants.{Accepted}
+use Rattle.safety_model.specs.State.{
+  Setup,
+  block_or,
+  changes_view,
+  config_of,
+  delivered,
+  height,
+  is_inside,
+  last_delivered,
+  left,
+  tip,
+  view,
+}
 use Rattle.safety_model.specs.Rules.{IsRun, actor}
 use Rattle.safety_model.specs.Safety.{IsGenesis}
 use Rattle.safety_model.proofs.FactTests.{bytes_eq_refl}
@@ -48,22 +83,9 @@ use Rattle.node_model.specs.Entries.{
   facts_of,
   letter_brought,
 }
-use Rattle.node_model.specs.Keeping.{
-  accepted_block,
-  firsts,
-  is_of_view,
-  is_timely,
-  kept,
-  letter_of,
-  of_another,
-  own_commit,
-  own_letters,
-  place_of,
-  timely,
-  view_of,
-}
+use Rattle.node_model.specs.Keeping.{accepted_block, firsts, is_of_view, is_timely, kept, letter_of, of_another, own_letters, place_of, timely, view_of}
 use Rattle.world_safety.specs.Resting.{has_ground, own}
-use Rattle.world_safety.specs.Steps.{IsBrought, IsGoodEntry, IsGoodEvent, IsGoodPledge, NodeStands, changes_view, rests}
+use Rattle.world_safety.specs.AllowedSteps.{IsBrought, IsGoodEntry, IsGoodEvent, IsGoodPledge, NodeStands, rests}
 use Rattle.world_safety.proofs.Standing.{IsKeptWell, Stands, StandsLast, names}
 use Rattle.world_safety.specs.Fits.{DeedFits, FitsAt, MessageFits}
 use Rattle.world_safety.proofs.Lists.{all_append, all_filter, all_map, all_reverse}
@@ -77,7 +99,8 @@ pub record IsGoodLetter (su : Setup) (h : History) (letter : Letter) : Type 0 wh
 
 -- FACTS ARE ONLY ADDED
 
-pub ground_more : (h : History) (f : Fact) (from : ℕ) (m : Message) → has_ground h from m ≡ true → has_ground (f ∷ h) from m ≡ true
+pub ground_more : (h : History) (f : Fact) (from : ℕ) (m : Message) → has_ground h from m ≡ true
+    → has_ground (f ∷ h) from m ≡ true
 ground_more h f from (wire.PrePrepare m) is = or_right _ _ is
 ground_more h f from (wire.Prepare m) is = or_right _ _ is
 ground_more h f from (wire.Commit m) is = or_right _ _ is
@@ -97,12 +120,15 @@ ground_more h f from (wire.RaftAppend m) is = absurd (cc)
 ground_more h f from (wire.RaftAppendReply m) is = absurd (cc)
 ground_more h f from (wire.RaftBlock m) is = absurd (cc)
 
-ground_over : (h : History) (fs : List Fact) (from : ℕ) (m : Message) → has_ground h from m ≡ true → has_ground (fs ++ h) from m ≡ true
+ground_over : (h : History) (fs : List Fact) (from : ℕ) (m : Message) → has_ground h from m ≡ true
+    → has_ground (fs ++ h) from m ≡ true
 ground_over h [] from m is = is
 ground_over h (f ∷ fs) from m is = ground_more (fs ++ h) f from m (ground_over h fs from m is)
 
 -- of a Byzantine member, or resting on a fact
-pub rests_over : (byzantine : List ℕ) (h : History) (fs : List Fact) (from : ℕ) (m : Message) → (is_in from byzantine || has_ground h from m) ≡ true → (is_in from byzantine || has_ground (fs ++ h) from m) ≡ true
+pub rests_over : (byzantine : List ℕ) (h : History) (fs : List Fact) (from : ℕ) (m : Message)
+    → (is_in from byzantine || has_ground h from m) ≡ true
+    → (is_in from byzantine || has_ground (fs ++ h) from m) ≡ true
 rests_over byzantine h fs from m is =
     elim (or_cases (is_in from byzantine) (has_ground h from m) is) [
       | inl y ↦ or_left _ _ y
@@ -115,7 +141,8 @@ event_over su h fs event good =
     record {
       offer = good.offer;
       letter = λ letter at. record {
-        rests = rests_over su.byzantine h fs letter.from (on_wire letter.message) (good.letter letter at).rests;
+        rests = rests_over su.byzantine h fs letter.from (on_wire letter.message)
+            (good.letter letter at).rests;
         fits = (good.letter letter at).fits;
       };
     }
@@ -129,7 +156,8 @@ pledge_over : (h : History) (fs : List Fact) (i : ℕ) (pledge : Pledge) → IsG
 pledge_over h fs i (Commits m) good =
     (has_over (is_prepared i m.config m.view m.number m.digest) fs h good.0, good.1)
 
-pub entry_over : (su : Setup) (h : History) (i : ℕ) (fs : List Fact) (entry : Entry) → IsGoodEntry su h i entry
+pub entry_over : (su : Setup) (h : History) (i : ℕ) (fs : List Fact) (entry : Entry)
+    → IsGoodEntry su h i entry
     → IsGoodEntry su (fs ++ h) i entry
 entry_over su h i fs Opened good = tt
 entry_over su h i fs (Came event accepts) good = event_over su h fs event good
@@ -186,7 +214,8 @@ entry_more su h i past entry mine stays good st =
 
 -- IT KEEPS LETTERS
 
-signed_names : (accepts : Accepts) (from : ℕ) (m : VoteMessage) → is_signed accepts from m ≡ true → names from m ≡ true
+signed_names : (accepts : Accepts) (from : ℕ) (m : VoteMessage) → is_signed accepts from m ≡ true
+    → names from m ≡ true
 signed_names accepts from (message_of.PrePrepare m) is = refl
 signed_names accepts from (message_of.Prepare m) is = refl
 signed_names accepts from (message_of.Commit m) is = (and_parts (m.sig.signer == from) _ is).0
@@ -195,7 +224,8 @@ timely_names : (first : Config) (i : ℕ) (h : History) (accepts : Accepts) (let
     → is_timely first i h accepts letter ≡ true → names letter.from letter.message ≡ true
 timely_names first i h accepts letter is =
     let c = config_at first (delivered i h) in
-    let p = and_parts (is_in letter.from c.members && not (is_raft c) && (config_in letter.message == c.number)
+    let p = and_parts (is_in letter.from c.members && not (is_raft c)
+    && (config_in letter.message == c.number)
     && is_inside i c.number (view_in letter.message) h && is_near (height i h) letter)
     (is_signed accepts letter.from letter.message) is in
     signed_names accepts letter.from letter.message p.1
@@ -204,7 +234,8 @@ timely_good : (su : Setup) (h : History) (i : ℕ) (g : History) (accepts : Acce
     → AllByRecursion (IsBrought su h) letters
     → AllByRecursion (IsGoodLetter su h) (filter (is_timely su.config i g accepts) letters)
 timely_good su h i g accepts letters all =
-    all_map (λ letter. IsBrought su h letter × (is_timely su.config i g accepts letter ≡ true)) (IsGoodLetter su h)
+    all_map (λ letter. IsBrought su h letter × (is_timely su.config i g accepts letter ≡ true))
+    (IsGoodLetter su h)
     (λ letter both. record {
       rests = both.0.rests;
       named = timely_names su.config i g accepts letter both.1;
@@ -230,7 +261,8 @@ letters_pledged : (su : Setup) (h : History) (i : ℕ) (pledge : Pledge) → IsG
 letters_pledged su h i (Commits m) good = (record { rests = or_right _ _ good.0; fits = good.1 }, tt)
 
 -- it is opened again: it keeps no letter
-pub reopened : (su : Setup) (h : History) (i : ℕ) (past : Past) → NodeStands su h i past → NodeStands su h i (Opened ∷ past)
+pub reopened : (su : Setup) (h : History) (i : ℕ) (past : Past) → NodeStands su h i past
+    → NodeStands su h i (Opened ∷ past)
 reopened su h i past st = record { own = st.own; still = st.still; entries = (tt, st.entries) }
 
 -- it is opened on the first block
@@ -244,13 +276,15 @@ letters_good : (su : Setup) (h : History) (i : ℕ) (past : Past) → AllByRecur
 letters_good su h i [] all = tt
 letters_good su h i (Opened ∷ past) all = tt
 letters_good su h i (Came event accepts ∷ past) all =
-    all_append (IsGoodLetter su h) (filter (is_timely su.config i (facts_of past) accepts) (letter_of i event))
+    all_append (IsGoodLetter su h) (filter (is_timely su.config i (facts_of past) accepts)
+    (letter_of i event))
     (timely su.config i past)
     (timely_good su h i (facts_of past) accepts (letter_of i event) (letters_brought su h i event all.0))
     (letters_good su h i past all.1)
 letters_good su h i (Did deed ∷ past) all = letters_good su h i past all.1
 letters_good su h i (Signed pledge accepts ∷ past) all =
-    all_append (IsGoodLetter su h) (filter (is_timely su.config i (facts_of past) accepts) (own_letters i pledge))
+    all_append (IsGoodLetter su h) (filter (is_timely su.config i (facts_of past) accepts)
+    (own_letters i pledge))
     (timely su.config i past)
     (timely_good su h i (facts_of past) accepts (own_letters i pledge) (letters_pledged su h i pledge all.0))
     (letters_good su h i past all.1)
@@ -306,7 +340,8 @@ accepted_in su h i e v s b (Signed pledge accepts ∷ past) all at =
 accepted_in su h i e v s b (Sent receivers message ∷ past) all at = accepted_in su h i e v s b past all.1 at
 
 -- where it names none, it accepted nothing
-accepts_some : (i e v s : ℕ) (deed : Deed) → block_of deed ≡ None → is_accepted_at i e v s (fact_of deed) ≡ false
+accepts_some : (i e v s : ℕ) (deed : Deed) → block_of deed ≡ None → is_accepted_at i e v s (fact_of deed)
+    ≡ false
 accepts_some i e v s (Accepting j e' v' s' b) at = absurd (cc)
 accepts_some i e v s (Prepares j e' v' s' d) at = refl
 accepts_some i e v s (Delivers j c proof) at = refl
@@ -343,37 +378,53 @@ pub has_own : (i : ℕ) (kind : Fact → Bool) (h : History) → has kind (own i
 has_own i kind [] is = is
 has_own i kind (f ∷ h) is = go (actor f == i) is (has_own i kind h)
   where
-    go : (t : Bool) → has kind (cond t (f ∷ own i h) (own i h)) ≡ true → (has kind (own i h) ≡ true → has kind h ≡ true) → has kind (f ∷ h) ≡ true
+    go : (t : Bool) → has kind (cond t (f ∷ own i h) (own i h)) ≡ true
+        → (has kind (own i h) ≡ true → has kind h ≡ true) → has kind (f ∷ h) ≡ true
     go true at rest = elim (or_cases (kind f) (has kind (own i h)) at) [
       | inl here ↦ or_left _ _ here
       | inr there ↦ or_right _ _ (rest there)
     ]
     go false at rest = or_right _ _ (rest at)
 
-none_own : (i e v s : ℕ) (h : History) → has (is_accepted_at i e v s) (own i h) ≡ false → has (is_accepted_at i e v s) h ≡ false
+none_own : (i e v s : ℕ) (h : History) → has (is_accepted_at i e v s) (own i h) ≡ false
+    → has (is_accepted_at i e v s) h ≡ false
 none_own i e v s [] none = refl
 none_own i e v s (f ∷ h) none = go (actor f == i) refl none (none_own i e v s h)
   where
-    go : (t : Bool) → (actor f == i) ≡ t → has (is_accepted_at i e v s) (cond t (f ∷ own i h) (own i h)) ≡ false
-        → (has (is_accepted_at i e v s) (own i h) ≡ false → has (is_accepted_at i e v s) h ≡ false) → has (is_accepted_at i e v s) (f ∷ h) ≡ false
-    go true is none rest = let p = or_parts (is_accepted_at i e v s f) (has (is_accepted_at i e v s) (own i h)) none in or_false _ _ p.0 (rest p.1)
+    go : (t : Bool) → (actor f == i) ≡ t → has (is_accepted_at i e v s) (cond t (f ∷ own i h) (own i h))
+        ≡ false
+        → (has (is_accepted_at i e v s) (own i h) ≡ false → has (is_accepted_at i e v s) h ≡ false)
+        → has (is_accepted_at i e v s) (f ∷ h) ≡ false
+    go true is none rest = let p = or_parts (is_accepted_at i e v s f)
+        (has (is_accepted_at i e v s) (own i h)) none in or_false _ _ p.0 (rest p.1)
     go false is none rest = or_false _ _ (other_accepts i e v s f is) (rest none)
 
 -- a fact of its past stands in the history
-pub in_history : (su : Setup) (h : History) (i : ℕ) (past : Past) → NodeStands su h i past → (kind : Fact → Bool) → has kind (facts_of past) ≡ true → has kind h ≡ true
-in_history su h i past st kind is = has_own i kind h (subst (λ (g : History). has kind g ≡ true) (sym st.own) is)
+pub in_history : (su : Setup) (h : History) (i : ℕ) (past : Past) → NodeStands su h i past
+    → (kind : Fact → Bool) → has kind (facts_of past) ≡ true → has kind h ≡ true
+in_history su h i past st kind is =
+    has_own i kind h (subst (λ (g : History). has kind g ≡ true) (sym st.own) is)
 
-pub accepted_is : (su : Setup) (h : History) (i : ℕ) (past : Past) → NodeStands su h i past → (e v s : ℕ) (b : Block) → accepted_block i e v s past ≡ Some b → IsAccepted h i e v s b
+pub accepted_is : (su : Setup) (h : History) (i : ℕ) (past : Past) → NodeStands su h i past
+    → (e v s : ℕ) (b : Block) → accepted_block i e v s past ≡ Some b → IsAccepted h i e v s b
 accepted_is su h i past st e v s b at =
     let is = accepted_in su h i e v s b past st.entries at in
-    record { accepted = in_history su h i past st (is_accepted i e v s (block_hash b)) is.accepted; fits = is.fits }
+    record {
+      accepted = in_history su h i past st (is_accepted i e v s (block_hash b)) is.accepted;
+      fits =
+          is.fits;
+    }
 
-fresh_is : (su : Setup) (h : History) (i : ℕ) (past : Past) → NodeStands su h i past → (e v s : ℕ) → accepted_block i e v s past ≡ None → has (is_accepted_at i e v s) h ≡ false
-fresh_is su h i past st e v s at = none_own i e v s h (subst (λ (g : History). has (is_accepted_at i e v s) g ≡ false) (sym st.own) (fresh_in i e v s past at))
+fresh_is : (su : Setup) (h : History) (i : ℕ) (past : Past) → NodeStands su h i past → (e v s : ℕ)
+    → accepted_block i e v s past ≡ None → has (is_accepted_at i e v s) h ≡ false
+fresh_is su h i past st e v s at =
+    none_own i e v s h (subst (λ (g : History). has (is_accepted_at i e v s) g ≡ false) (sym st.own)
+    (fresh_in i e v s past at))
 
 -- SO ITS PLACE AND ITS VIEW ARE THOSE BY THE HISTORY
 
-pub all_firsts : (P : Letter → Type 0) (letters : List Letter) → AllByRecursion P letters → AllByRecursion P (firsts letters)
+pub all_firsts : (P : Letter → Type 0) (letters : List Letter) → AllByRecursion P letters
+    → AllByRecursion P (firsts letters)
 all_firsts P [] all = tt
 all_firsts P (m ∷ ms) all = go (list_any (same_slot m) ms) (all_firsts P ms all.1)
   where
@@ -384,16 +435,26 @@ all_firsts P (m ∷ ms) all = go (list_any (same_slot m) ms) (all_firsts P ms al
 all_kept : (su : Setup) (h : History) (i : ℕ) (past : Past) (e v s : ℕ) → NodeStands su h i past
     → AllByRecursion (IsKeptWell su h e v s) (reverse (filter (is_of_view e v s) (kept su.config i past)))
 all_kept su h i past e v s st =
-    let good = all_filter (IsGoodLetter su h) (is_of_view e v s) (kept su.config i past) (all_firsts (IsGoodLetter su h) (timely su.config i past) (letters_good su h i past st.entries)) in
+    let good = all_filter (IsGoodLetter su h) (is_of_view e v s) (kept su.config i past)
+    (all_firsts (IsGoodLetter su h) (timely su.config i past) (letters_good su h i past st.entries)) in
     all_reverse (IsKeptWell su h e v s) (filter (is_of_view e v s) (kept su.config i past))
     (all_map (λ letter. IsGoodLetter su h letter × (is_of_view e v s letter ≡ true)) (IsKeptWell su h e v s)
-    (λ letter both. record { rests = both.0.rests; named = both.0.named; of_view = both.1; fits = both.0.fits }) (filter (is_of_view e v s) (kept su.config i past)) good)
+    (λ letter both. record {
+      rests = both.0.rests;
+      named = both.0.named;
+      of_view = both.1;
+      fits =
+          both.0.fits;
+    }) (filter (is_of_view e v s) (kept su.config i past)) good)
 
 -- it is in view 0
-pub first_view_of : (su : Setup) (h : History) (i e : ℕ) (past : Past) → NodeStands su h i past → view i e (facts_of past) ≡ 0
-first_view_of su h i e past st = ap (view i e) (sym st.own) ∙ sym (view_own i e h) ∙ (first_view i e h st.still).0
+pub first_view_of : (su : Setup) (h : History) (i e : ℕ) (past : Past) → NodeStands su h i past
+    → view i e (facts_of past) ≡ 0
+first_view_of su h i e past st =
+    ap (view i e) (sym st.own) ∙ sym (view_own i e h) ∙ (first_view i e h st.still).0
 
-pub stands : (su : Setup) (h : History) (i : ℕ) (past : Past) → NodeStands su h i past → Stands su h i (place_of su.config i (facts_of past)) (view_of su.config i past)
+pub stands : (su : Setup) (h : History) (i : ℕ) (past : Past) → NodeStands su h i past
+    → Stands su h i (place_of su.config i (facts_of past)) (view_of su.config i past)
 unfolding place_of view_of
 stands su h i past st =
     let e = (config_of su i (facts_of past)).number in
@@ -416,7 +477,8 @@ pub stands_last : (su : Setup) (h : History) (i : ℕ) (past : Past) → NodeSta
 unfolding place_of
 stands_last su h i past st run genesis first =
     record {
-      last = ap (λ (b : Block). block_hash (block_or b (last_delivered i (facts_of past)))) (sym genesis.block)
+      last = ap (λ (b : Block). block_hash (block_or b (last_delivered i (facts_of past))))
+          (sym genesis.block)
           ∙ ap (λ (g : History). block_hash (tip su i g)) (sym st.own) ∙ ap block_hash (sym (tip_own su i h));
       number = tip_number su h run first i;
     }

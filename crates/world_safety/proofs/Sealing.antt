@@ -1,22 +1,5 @@
 -- What a node keeps is signed in the box of seals, and so what it delivers is certified.
-use Rattle.std.proofs.Common.{
-  ◌≡◌,
-  ℕ,
-  Bool,
-  true,
-  ◌&&◌,
-  List,
-  [],
-  ◌∷◌,
-  ◌++◌,
-  reverse,
-  refl,
-  sym,
-  subst,
-  ap,
-  ◌∙◌,
-  Some,
-}
+use Rattle.std.proofs.Common.{◌≡◌, ℕ, true, ◌&&◌, List, [], ◌∷◌, ◌++◌, reverse, refl, sym, subst, ap, ◌∙◌, Some}
 use Rattle.std.specs.Prelude.{◌==◌, filter, not}
 use Rattle.std.specs.List.{AllByRecursion}
 use Rattle.std.proofs.lemmas.Bool.{and_from, and_parts}
@@ -53,34 +36,23 @@ use Rattle.view_model.specs.declared.letter.VoteMessage.{VoteMessage}
 use Rattle.view_model.specs.Acts.{delivery_due}
 use Rattle.view_model.specs.Answers.{is_near, is_signed}
 use Rattle.view_model.specs.Letters.{config_in, view_in}
-use Rattle.node_model.specs.Entries.{
-  Accepts as Accepting,
-  Came,
-  Commits,
-  Deed,
-  Delivers,
-  Did,
-  Enters,
-  Entry,
-  Leaves,
-  Opened,
-  Past,
-  Prepares,
-  Sent,
-  Signed,
-  facts_in,
-  facts_of,
-  statement_of,
-  statements_in,
-  statements_of,
+use Rattle.node_model.specs.Entries.{Accepts as Accepting, Came, Commits, Deed, Delivers, Did, Enters, Entry, Leaves, Opened, Past, Prepares, Sent, Signed, facts_in, facts_of, statement_of, statements_of}
+use Rattle.node_model.specs.Keeping.{
+  is_of_view,
+  is_timely,
+  kept,
+  letter_of,
+  own_letters,
+  place_of,
+  timely,
+  view_of,
 }
-use Rattle.node_model.specs.Keeping.{is_of_view, is_timely, kept, letter_of, own_letters, place_of, timely, view_of}
 use Rattle.node_model.specs.Steps.{Keys}
 use Rattle.world_model.specs.Worlds.{keys_of, seals_of}
 use Rattle.world_safety.specs.Certified.{IsCertifiedFact}
 use Rattle.world_safety.proofs.Certifying.{IsKeptSigned, IsSignedLetter, delivery_good}
 use Rattle.world_safety.proofs.Lists.{all_append, all_filter, all_map, all_of, all_reverse}
-use Rattle.world_safety.proofs.Moments.{
+use Rattle.world_safety.proofs.StepMoments.{
   AreMade,
   IsDueDeed,
   IsMade,
@@ -95,27 +67,34 @@ use Rattle.world_safety.proofs.Nodes.{all_firsts}
 
 -- WHAT IS ACCEPTED STAYS ACCEPTED
 
-message_more : (old new : Accepts) → KeepsAccepted old new → (from : ℕ) (m : VoteMessage) → is_signed old from m ≡ true → is_signed new from m ≡ true
+message_more : (old new : Accepts) → KeepsAccepted old new → (from : ℕ) (m : VoteMessage)
+    → is_signed old from m ≡ true → is_signed new from m ≡ true
 message_more old new more from (message_of.PrePrepare m) is = refl
 message_more old new more from (message_of.Prepare m) is = refl
 message_more old new more from (message_of.Commit m) is =
     let p = and_parts (m.sig.signer == from) (old (commit_text m.config m.view m.number m.digest) m.sig) is in
     and_from _ _ p.0 (more (commit_text m.config m.view m.number m.digest) m.sig p.1)
 
-letters_signed : (old new : Accepts) → KeepsAccepted old new → (letters : List Letter) → AllByRecursion (IsSignedLetter old) letters → AllByRecursion (IsSignedLetter new) letters
-letters_signed old new more letters all = all_map (IsSignedLetter old) (IsSignedLetter new) (λ letter is. message_more old new more letter.from letter.message is) letters all
+letters_signed : (old new : Accepts) → KeepsAccepted old new → (letters : List Letter)
+    → AllByRecursion (IsSignedLetter old) letters → AllByRecursion (IsSignedLetter new) letters
+letters_signed old new more letters all = all_map (IsSignedLetter old) (IsSignedLetter new)
+    (λ letter is. message_more old new more letter.from letter.message is) letters all
 
-fact_certified : (old new : Accepts) → KeepsAccepted old new → (c : Config) (f : Fact) → IsCertifiedFact old c f → IsCertifiedFact new c f
+fact_certified : (old new : Accepts) → KeepsAccepted old new → (c : Config) (f : Fact)
+    → IsCertifiedFact old c f → IsCertifiedFact new c f
 fact_certified old new more c (Accepted i e v s d) is = tt
 fact_certified old new more c (Prepared i e v s d) is = tt
 fact_certified old new more c (Left i e v) is = tt
 fact_certified old new more c (Reported i e v r) is = tt
 fact_certified old new more c (Entered i e v x choice) is = tt
 fact_certified old new more c (Delivered i b proof_of.Raft) is = is
-fact_certified old new more c (Delivered i b (proof_of.Bft cert)) is = is_good_cert-kept old new c b.header.number (block_hash b) cert more is
+fact_certified old new more c (Delivered i b (proof_of.Bft cert)) is =
+    is_good_cert-kept old new c b.header.number (block_hash b) cert more is
 
-pub facts_certified : (old new : Accepts) → KeepsAccepted old new → (c : Config) (h : List Fact) → AllByRecursion (IsCertifiedFact old c) h → AllByRecursion (IsCertifiedFact new c) h
-facts_certified old new more c h all = all_map (IsCertifiedFact old c) (IsCertifiedFact new c) (fact_certified old new more c) h all
+pub facts_certified : (old new : Accepts) → KeepsAccepted old new → (c : Config) (h : List Fact)
+    → AllByRecursion (IsCertifiedFact old c) h → AllByRecursion (IsCertifiedFact new c) h
+facts_certified old new more c h all =
+    all_map (IsCertifiedFact old c) (IsCertifiedFact new c) (fact_certified old new more c) h all
 
 -- WHAT A NODE KEEPS
 
@@ -139,7 +118,8 @@ pub past_sealed : (old new : Accepts) → KeepsAccepted old new → (c : Config)
     → IsSealedPast c i old past → IsSealedPast c i new past
 past_sealed old new more c i past is = letters_signed old new more (timely c i past) is
 
-kept_signed : (accepts : Accepts) (c : Config) (i : ℕ) (past : Past) (e v k : ℕ) → IsSealedPast c i accepts past
+kept_signed : (accepts : Accepts) (c : Config) (i : ℕ) (past : Past) (e v k : ℕ)
+    → IsSealedPast c i accepts past
     → AllByRecursion (IsKeptSigned accepts e v k) (reverse (filter (is_of_view e v k) (kept c i past)))
 kept_signed accepts c i past e v k all =
     let good = all_filter (IsSignedLetter accepts) (is_of_view e v k) (kept c i past)
@@ -152,7 +132,8 @@ kept_signed accepts c i past e v k all =
 -- A STEP, entry by entry, where these keys accept more with each statement that is signed
 
 module _ (su : Setup) (i : ℕ) (keys : Keys)
-    (grows : (signed more : List (List ℕ)) → KeepsAccepted (keys.accepts signed) (keys.accepts (signed ++ more))) where
+    (grows : (signed more : List (List ℕ)) → KeepsAccepted (keys.accepts signed)
+    (keys.accepts (signed ++ more))) where
   -- what it delivers is certified
   delivers_certified : (accepts : Accepts) (s : Now) → IsSealedPast su.config i accepts s.past
       → (b : Block) (cert : Cert) → delivery_due (see su i s).place (see su i s).view ≡ Some (b, cert)
@@ -219,7 +200,8 @@ module _ (su : Setup) (i : ℕ) (keys : Keys)
 
   -- by the end of them
   pub record AllSealed (signed : List (List ℕ)) (s : Now) (made : List Entry) : Type 0 where
-    pub facts : AllByRecursion (IsCertifiedFact (keys.accepts (signed ++ statements_of made)) su.config) (facts_of made)
+    pub facts : AllByRecursion (IsCertifiedFact (keys.accepts (signed ++ statements_of made)) su.config)
+        (facts_of made)
     pub past : IsSealedPast su.config i (keys.accepts (signed ++ statements_of made)) (after_all made s).past
 
   pub made_sealed : (signed : List (List ℕ)) (s : Now) (made : List Entry) → AreMade su i keys signed s made
@@ -227,7 +209,8 @@ module _ (su : Setup) (i : ℕ) (keys : Keys)
   made_sealed signed s [] all is =
       record {
         facts = tt;
-        past = subst (λ signed. IsSealedPast su.config i (keys.accepts signed) s.past) (sym (append-nil signed)) is;
+        past = subst (λ signed. IsSealedPast su.config i (keys.accepts signed) s.past)
+            (sym (append-nil signed)) is;
       }
   made_sealed signed s (entry ∷ made) all is =
       let one = entry_sealed signed s entry all.0 is in
@@ -242,7 +225,8 @@ module _ (su : Setup) (i : ℕ) (keys : Keys)
             (facts_in entry ++ facts_of made)) end
             (all_append (IsCertifiedFact (keys.accepts (next ++ statements_of made)) c) (facts_in entry)
             (facts_of made) first rest.facts);
-        past = subst (λ signed. IsSealedPast c i (keys.accepts signed) (after_all made (after_one entry s)).past) end
+        past = subst (λ signed. IsSealedPast c i (keys.accepts signed)
+            (after_all made (after_one entry s)).past) end
             rest.past;
       }
 

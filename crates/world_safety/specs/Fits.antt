@@ -5,7 +5,14 @@ use Rattle.ord_types.specs.declared.values.Proof.TheVariants as proof_of
 use Rattle.safety_model.specs.Blocks.{Block}
 use Rattle.safety_model.specs.Facts.{Cert, Proof, signers_of}
 use Rattle.safety_model.specs.declared.fact.Fact.{Fact}
-use Rattle.safety_model.specs.declared.fact.Fact.TheVariants.{Accepted, Prepared, Left, Reported, Entered, Delivered}
+use Rattle.safety_model.specs.declared.fact.Fact.TheVariants.{
+  Accepted,
+  Prepared,
+  Left,
+  Reported,
+  Entered,
+  Delivered,
+}
 use Rattle.bft_wire.specs.Messages.{HasMessageSpelling}
 use Rattle.view_model.specs.declared.letter.VoteMessage.{VoteMessage}
 use Rattle.view_model.specs.Letters.{on_wire}

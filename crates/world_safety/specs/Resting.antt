@@ -8,11 +8,12 @@ use Rattle.signer_edge.specs.Statements.{commit_text}
 use Rattle.bft_wire.specs.declared.message.Message.{Message}
 use Rattle.bft_wire.specs.declared.message.Message.TheVariants as message_of
 
--- the fact on which a member's message rests stands in the history: an acceptance under a PrePrepare and under a
--- Prepare, a preparation under a Commit, of the same configuration, view, number and hash (Castro and Liskov 2002).
--- A message of another kind rests on nothing: no correct node sends one yet.
+-- the fact on which a member's message rests stands in the history: an acceptance under a PrePrepare and
+-- under a Prepare, a preparation under a Commit, of the same configuration, view, number and hash (Castro
+-- and Liskov 2002). A message of another kind rests on nothing: no correct node sends one yet.
 abbrev pub has_ground : History → ℕ → Message → Bool
-has_ground h from (message_of.PrePrepare m) = has (is_accepted from m.config m.view m.number (block_hash m.block)) h
+has_ground h from (message_of.PrePrepare m) =
+    has (is_accepted from m.config m.view m.number (block_hash m.block)) h
 has_ground h from (message_of.Prepare m) = has (is_accepted from m.config m.view m.number m.digest) h
 has_ground h from (message_of.Commit m) = has (is_prepared from m.config m.view m.number m.digest) h
 has_ground h from _ = false

@@ -1,5 +1,5 @@
--- What is so of every world of a script: what its nodes did is a run, its messages rest on what their senders did,
--- and so its ledgers agree.
+-- What is so of every world of a script: what its nodes did is a run, its messages rest on what their
+-- senders did, and so its ledgers agree.
 use Rattle.std.specs.Prelude.{
   ◌≡◌,
   ◌≤◌,
@@ -75,8 +75,8 @@ stored_with _ = []
 abbrev pub stored : Setup → ℕ → History → List (Block × Proof)
 stored su i h = (su.genesis, proof_of.Raft) ∷ flat_map stored_with (reverse (own i h))
 
--- A node of the world, running or stopped: the list of all facts has its own facts in their order, and its ledger
--- is what it delivered, the blocks of the ledger by the history.
+-- A node of the world, running or stopped: the list of all facts has its own facts in their order, and its
+-- ledger is what it delivered, the blocks of the ledger by the history.
 pub record IsNodeOf (su : Setup) (told : History) (node : Node PastNode) : Type 0 where
   pub config : node.state.config ≡ su.config
   pub id : node.state.id ≡ node.id
@@ -101,8 +101,8 @@ IsAmong members e = IsTrue (is_in e.from members) × IsTrue (is_in e.to members)
 abbrev pub IsNoRaftMessage : Entry → Type 0
 IsNoRaftMessage e = is_raft_if_any (message_in e.bytes) ≡ false
 
--- Each signature of a correct member on a commit statement, which the box accepts, rests on its preparation of the
--- digest that is signed: nobody else can make one.
+-- Each signature of a correct member on a commit statement, which the box accepts, rests on its preparation
+-- of the digest that is signed: nobody else can make one.
 abbrev pub AreBacked : List ℕ → History → List Seal → Type 0
 AreBacked correct h seals =
     (i e v s : ℕ) (d : List ℕ) (sig : Sig) → IsTrue (is_in i correct) → IsNumber e → IsNumber v → IsNumber s
@@ -119,11 +119,11 @@ IsAllowedSeal members byzantine correct h seal =
     IsTrue (signs_anything members byzantine seal.signer)
     ⊎ (IsTrue (is_in seal.signer correct) × IsPreparedStatement h seal.signer seal.statement)
 
--- What the nodes did, and nobody else did anything, is a run by the rules, in the order in which they did it. The
--- nodes are the correct members; no more are Byzantine than the bound of the configuration. Members send to
--- members. The bytes of whatever a node sent spell a message, which rests on a fact of its sender; a Byzantine
--- member sent any bytes but messages of Raft. A node signs only what it prepared, and nobody else signs but the
--- administrator and Byzantine members. So the ledgers agree, where no two texts collide.
+-- What the nodes did, and nobody else did anything, is a run by the rules, in the order in which they did
+-- it. The nodes are the correct members; no more are Byzantine than the bound of the configuration. Members
+-- send to members. The bytes of whatever a node sent spell a message, which rests on a fact of its sender;
+-- a Byzantine member sent any bytes but messages of Raft. A node signs only what it prepared, and nobody
+-- else signs but the administrator and Byzantine members. So the ledgers agree, where no two texts collide.
 pub record IsSafeWorld (w : World PastNode History) : Type 0 where
   pub members : AreIds w.config.members
   pub bounded : how_many_in w.byzantine w.config.members ≤ fault_bound (length w.config.members)

@@ -1,34 +1,5 @@
 -- The moments of a step: the run so far, and the node that stands in it; and what is so of each entry.
-use Rattle.std.proofs.Common.{
-  ◌≡◌,
-  ℕ,
-  ◌+◌,
-  ◌<◌,
-  ◌≤◌,
-  zero,
-  suc,
-  inl,
-  inr,
-  Bool,
-  true,
-  false,
-  ◌&&◌,
-  List,
-  [],
-  ◌∷◌,
-  ◌++◌,
-  reverse,
-  take,
-  refl,
-  sym,
-  subst,
-  ap,
-  ◌∙◌,
-  Option,
-  Some,
-  None,
-  arith,
-}
+use Rattle.std.proofs.Common.{◌≡◌, ℕ, ◌+◌, ◌≤◌, zero, suc, inl, inr, true, false, ◌&&◌, List, [], ◌∷◌, ◌++◌, reverse, take, refl, sym, subst, ap, ◌∙◌, Option, Some, None, arith}
 use Rattle.std.specs.Prelude.{◌==◌, filter, nat_le, not}
 use Rattle.std.specs.List.{AllByRecursion}
 use Rattle.std.proofs.lemmas.Bool.{and_parts, eqb-true, false_from_ne_true, or_cases}
@@ -38,9 +9,8 @@ use Rattle.ord_types.specs.Members.{is_in, is_raft}
 use Rattle.ord_types.specs.declared.values.Proof.TheVariants as proof_of
 use Rattle.safety_model.specs.Blocks.{Block, config_at}
 use Rattle.safety_model.specs.Facts.{Cert, History, Proof, has}
-use Rattle.safety_model.specs.Rules.{IsRun, actor}
-use Rattle.safety_model.specs.State.{Setup, delivered, height, is_inside, left, view}
-use Rattle.safety_model.specs.declared.fact.Fact.{Fact}
+use Rattle.safety_model.specs.Rules.{IsRun}
+use Rattle.safety_model.specs.State.{Setup, changes_view, delivered, height, is_inside, left, view}
 use Rattle.safety_model.specs.declared.fact.Fact.TheVariants.{Accepted, Prepared}
 use Rattle.safety_model.proofs.Moments.{Moment as Earlier, WasOnce, found, moment, now}
 use Rattle.safety_model.proofs.OneView.{accepted_stands}
@@ -83,17 +53,16 @@ use Rattle.node_model.specs.Keeping.{
   timely,
   with_entries,
 }
-use Rattle.node_model.specs.Laws.{Fits, IsAtMost, IsBelow, NothingAbove, NothingAhead}
+use Rattle.node_model.specs.Laws.{Fits, IsAtMost, IsBelow, NothingAhead}
 use Rattle.node_model.specs.Steps.{Keys}
 use Rattle.node_model.proofs.BridgeLemmas.{goes}
 use Rattle.world_safety.specs.Fits.{FactFits}
-use Rattle.world_safety.specs.Steps.{
+use Rattle.world_safety.specs.AllowedSteps.{
   AreAllowed,
   IsAllowedEntry,
   IsAllowedStep,
   IsGoodEntry,
   NodeStands,
-  changes_view,
 }
 use Rattle.world_safety.proofs.Lists.{all_append, all_filter, all_map, all_of}
 use Rattle.world_safety.proofs.Nodes.{accepted_is, entry_more, in_history}
@@ -151,7 +120,8 @@ module _ (su : Setup) (i : ℕ) where
   abbrev pub see : Now → Core
   see s = core_of_past (node_in s.past)
 
-  pub past_all : (made : List Entry) (s : Now) → node_in (after_all made s).past ≡ with_entries made (node_in s.past)
+  pub past_all : (made : List Entry) (s : Now) → node_in (after_all made s).past
+      ≡ with_entries made (node_in s.past)
   past_all [] s = refl
   past_all (entry ∷ made) s = past_all made (after_one entry s)
 
@@ -176,12 +146,14 @@ module _ (su : Setup) (i : ℕ) where
       let in_view = eqb-true (view i e at) v p.0 in
       record { height = omega arith; view = omega arith }
 
-  accepted_there : (h : History) (e v k : ℕ) (d : List ℕ) → Earlier su h (Accepted i e v k d) → WasThere h e v k
+  accepted_there : (h : History) (e v k : ℕ) (d : List ℕ) → Earlier su h (Accepted i e v k d)
+      → WasThere h e v k
   accepted_there h e v k d m =
       there h m.at e v k (height_later i m.at h m.once) (view_later i e m.at h m.once) m.allowed.1.1.1.1.0
       m.allowed.1.1.1.1.1.0
 
-  prepared_there : (h : History) (e v k : ℕ) (d : List ℕ) → Earlier su h (Prepared i e v k d) → WasThere h e v k
+  prepared_there : (h : History) (e v k : ℕ) (d : List ℕ) → Earlier su h (Prepared i e v k d)
+      → WasThere h e v k
   prepared_there h e v k d m =
       there h m.at e v k (height_later i m.at h m.once) (view_later i e m.at h m.once) m.allowed.1.1.1.1.0
       m.allowed.1.1.1.1.1.0
@@ -189,8 +161,10 @@ module _ (su : Setup) (i : ℕ) where
   -- as the node's own facts tell it
   there_own : (s : Now) → Moment s → (e v k : ℕ) → WasThere s.told e v k → WasThere (facts_of s.past) e v k
   there_own s is e v k was =
-      let high : height i s.told ≡ height i (facts_of s.past) = height_own i s.told ∙ ap (height i) is.node.own in
-      let late : view i e s.told ≡ view i e (facts_of s.past) = view_own i e s.told ∙ ap (view i e) is.node.own in
+      let high : height i s.told ≡ height i (facts_of s.past) = height_own i s.told
+      ∙ ap (height i) is.node.own in
+      let late : view i e s.told ≡ view i e (facts_of s.past) = view_own i e s.told
+      ∙ ap (view i e) is.node.own in
       record { height = subst (λ m. k ≤ m) high was.height; view = subst (λ m. v ≤ m) late was.view }
 
   none_accepted : (s : Now) → Moment s → (e v k : ℕ) → (WasThere (facts_of s.past) e v k → ⊥)
@@ -201,7 +175,8 @@ module _ (su : Setup) (i : ℕ) where
       go None at = refl
       go (Some b) at =
           let d = block_hash b in
-          let stood = accepted_stands i e v k d s.told (accepted_is su s.told i s.past is.node e v k b at).accepted in
+          let stood = accepted_stands i e v k d s.told
+          (accepted_is su s.told i s.past is.node e v k b at).accepted in
           absurd (never (there_own s is e v k (accepted_there s.told e v k d
           (moment su s.told (Accepted i e v k d) is.run stood))))
 
@@ -227,13 +202,18 @@ module _ (su : Setup) (i : ℕ) where
       let c = config_at su.config (delivered i h) in
       let v = view_in letter.message in
       let n = number_in letter.message in
-      let p = and_parts (is_in letter.from c.members && not (is_raft c) && (config_in letter.message == c.number)
-      && is_inside i c.number v h && is_near (height i h) letter) (is_signed accepts letter.from letter.message) is in
-      let q = and_parts (is_in letter.from c.members && not (is_raft c) && (config_in letter.message == c.number)
+      let p = and_parts (is_in letter.from c.members && not (is_raft c)
+      && (config_in letter.message == c.number)
+      && is_inside i c.number v h && is_near (height i h) letter)
+      (is_signed accepts letter.from letter.message) is in
+      let q = and_parts (is_in letter.from c.members && not (is_raft c)
+      && (config_in letter.message == c.number)
       && is_inside i c.number v h) (is_near (height i h) letter) p.0 in
-      let r = and_parts (is_in letter.from c.members && not (is_raft c) && (config_in letter.message == c.number))
+      let r = and_parts (is_in letter.from c.members && not (is_raft c)
+      && (config_in letter.message == c.number))
       (is_inside i c.number v h) q.0 in
-      let t = and_parts (is_in letter.from c.members && not (is_raft c)) (config_in letter.message == c.number) r.0 in
+      let t = and_parts (is_in letter.from c.members && not (is_raft c)) (config_in letter.message
+      == c.number) r.0 in
       let u = and_parts (view i c.number h == v) (nat_le (left i c.number h) v) r.1 in
       let same = eqb-true (view i c.number h) v u.0 in
       let low : v ≤ view i c.number h = omega arith in
@@ -275,9 +255,11 @@ module _ (su : Setup) (i : ℕ) where
   timely_ahead (Did deed ∷ past) =
       ahead_over (facts_in (Did deed)) (facts_of past) (timely su.config i past) (timely_ahead past)
   timely_ahead (Signed pledge accepts ∷ past) =
-      ahead_over (facts_in (Signed pledge accepts)) (facts_of past) (timely su.config i (Signed pledge accepts ∷ past))
+      ahead_over (facts_in (Signed pledge accepts)) (facts_of past)
+      (timely su.config i (Signed pledge accepts ∷ past))
       (all_append (IsNotAhead (facts_of past))
-      (filter (is_timely su.config i (facts_of past) accepts) (own_letters i pledge)) (timely su.config i past)
+      (filter (is_timely su.config i (facts_of past) accepts) (own_letters i pledge))
+      (timely su.config i past)
       (filtered_near (facts_of past) accepts (own_letters i pledge)) (timely_ahead past))
   timely_ahead (Sent receivers message ∷ past) = timely_ahead past
 
@@ -287,12 +269,17 @@ module _ (su : Setup) (i : ℕ) where
       let letters = timely su.config i s.past in
       let near = timely_ahead s.past in
       record {
-        accepted = λ e v k above. none_accepted s is e v k (λ was. let high = was.height in absurd (omega arith));
-        prepared = λ e v k above. none_prepared s is e v k (λ was. let high = was.height in absurd (omega arith));
-        timely = all_map (IsNotAhead h) (IsAtMost (height i h + 1)) (λ letter not_ahead. not_ahead.near) letters near;
+        accepted =
+            λ e v k above. none_accepted s is e v k (λ was. let high = was.height in absurd (omega arith));
+        prepared =
+            λ e v k above. none_prepared s is e v k (λ was. let high = was.height in absurd (omega arith));
+        timely = all_map (IsNotAhead h) (IsAtMost (height i h + 1)) (λ letter not_ahead. not_ahead.near)
+            letters near;
         above = record {
-          accepted = λ e v k above. none_accepted s is e v k (λ was. let late = was.view in absurd (omega arith));
-          prepared = λ e v k above. none_prepared s is e v k (λ was. let late = was.view in absurd (omega arith));
+          accepted =
+              λ e v k above. none_accepted s is e v k (λ was. let late = was.view in absurd (omega arith));
+          prepared =
+              λ e v k above. none_prepared s is e v k (λ was. let late = was.view in absurd (omega arith));
           timely = all_map (IsNotAhead h) (IsBelow i h) (λ letter not_ahead. not_ahead.below) letters near;
         };
       }

@@ -1,31 +1,6 @@
 -- What a step makes is allowed, act by act, and each moment of it is one of a run in which the node stands.
-use Rattle.std.proofs.Common.{
-  ◌≡◌,
-  ℕ,
-  ◌+◌,
-  zero,
-  suc,
-  Bool,
-  true,
-  false,
-  cond,
-  ◌&&◌,
-  List,
-  [],
-  ◌∷◌,
-  ◌++◌,
-  map,
-  refl,
-  sym,
-  subst,
-  ap,
-  ◌∙◌,
-  Option,
-  Some,
-  None,
-  arith,
-}
-use Rattle.std.specs.Prelude.{◌==◌, filter, nat_le, not}
+use Rattle.std.proofs.Common.{◌≡◌, ℕ, zero, suc, Bool, true, false, cond, ◌&&◌, List, [], ◌∷◌, ◌++◌, map, refl, sym, subst, ap, Option, Some, None, arith}
+use Rattle.std.specs.Prelude.{◌==◌, nat_le, not}
 use Rattle.std.specs.List.{All, AllByRecursion}
 use Rattle.std.proofs.lemmas.Bool.{and_parts, eq-eqb, eqb-true, le-leb, or_left, or_right}
 use Rattle.ord_types.specs.Grammar.{HasRequestSpelling, IsDigest, IsNumber}
@@ -37,7 +12,6 @@ use Rattle.safety_model.specs.Blocks.{Block, Config, Request}
 use Rattle.safety_model.specs.Facts.{History, has, is_accepted, is_prepared}
 use Rattle.safety_model.specs.Rules.{Allowed, bound_of, faulty}
 use Rattle.safety_model.specs.State.{Setup, config_of, delivered, height, view}
-use Rattle.safety_model.specs.declared.fact.Fact.{Fact}
 use Rattle.safety_model.specs.declared.fact.Fact.TheVariants.{Accepted, Prepared, Delivered}
 use Rattle.safety_model.proofs.Chains.{config_stays}
 use Rattle.safety_model.proofs.FactTests.{accepted_itself, prepared_itself}
@@ -57,7 +31,7 @@ use Rattle.view_model.specs.Acts.{
 use Rattle.node_model.specs.declared.event.Event.{Event}
 use Rattle.node_model.specs.Cores.{Core, Found, after_entries}
 use Rattle.node_model.specs.Entries.{Did, Entry, Past, facts_of, is_tick, offer_in, others, statements_of}
-use Rattle.node_model.specs.Keeping.{found_of, place_of, view_of}
+use Rattle.node_model.specs.Keeping.{place_of, view_of}
 use Rattle.node_model.specs.Steps.{
   Accept,
   Deliver,
@@ -99,13 +73,13 @@ use Rattle.node_model.specs.Steps.{
 }
 use Rattle.world_safety.specs.Fits.{DeliveredFits, FitsAt}
 use Rattle.world_safety.specs.Resting.{has_ground}
-use Rattle.world_safety.specs.Steps.{IsBounded, IsGoodEvent, SignsFit}
+use Rattle.world_safety.specs.AllowedSteps.{IsBounded, IsGoodEvent, SignsFit}
 use Rattle.world_safety.proofs.Accepting.{acceptances_allowed, proposals_allowed}
 use Rattle.world_safety.proofs.Delivering.{deliveries_allowed, delivery_is, delivery_spelled, some_same}
 use Rattle.world_safety.proofs.Fitting.{PlaceFits, acceptance_fits, proposal_fits}
 use Rattle.world_safety.proofs.Ids.{all_members}
-use Rattle.world_safety.proofs.Lists.{all_append, all_within}
-use Rattle.world_safety.proofs.Moments.{
+use Rattle.world_safety.proofs.Lists.{all_within}
+use Rattle.world_safety.proofs.StepMoments.{
   AreMade,
   IsMade,
   Moment,
@@ -211,7 +185,8 @@ module _ (su : Setup) (i : ℕ) (bounded : IsBounded su) (correct : is_in i su.b
   receivers_fit : (c : Core) → c.place.config.members ≡ su.config.members
       → AllByRecursion (λ to. is_in to su.config.members ≡ true) (others c.place.config.members c.view.me)
   receivers_fit c same =
-      all_within (λ to. is_in to su.config.members ≡ true) (λ to. not (to == c.view.me)) c.place.config.members
+      all_within (λ to. is_in to su.config.members ≡ true) (λ to. not (to == c.view.me))
+      c.place.config.members
       (subst (λ all. AllByRecursion (λ to. is_in to all ≡ true) c.place.config.members) same
       (all_members c.place.config.members))
 
@@ -237,7 +212,8 @@ module _ (su : Setup) (i : ℕ) (bounded : IsBounded su) (correct : is_in i su.b
   sends_then signed s c same [] good more then = then s.past
   sends_then signed s c same (message ∷ messages) good more then = (
     sent_made signed s c same message good.0,
-    sends_then signed (record { told = s.told; past = to_all c message ∷ s.past }) c same messages good.1 more then,
+    sends_then signed (record { told = s.told; past = to_all c message ∷ s.past }) c same messages good.1
+        more then,
   )
 
   -- A COMMIT of what was prepared
@@ -265,10 +241,12 @@ module _ (su : Setup) (i : ℕ) (bounded : IsBounded su) (correct : is_in i su.b
   -- ACCEPT, with a PrePrepare of the block, or with nothing before
 
   accepts_made : (signed : List (List ℕ)) (s : Now) → Moment su i s → (b : Block)
-      → Allowed su s.told (Accepted i (at s).place.config.number (at s).view.view (at s).place.height (block_hash b))
+      → Allowed su s.told (Accepted i (at s).place.config.number (at s).view.view (at s).place.height
+      (block_hash b))
       → FitsAt (at s).place.height b → (first : List Message)
       → AllByRecursion (IsGoodMessage
-      (Accepted i (at s).place.config.number (at s).view.view (at s).place.height (block_hash b) ∷ s.told) i) first
+      (Accepted i (at s).place.config.number (at s).view.view (at s).place.height (block_hash b) ∷ s.told)
+      i) first
       → Made signed s (Did (acceptance (at s).place (at s).view b)
       ∷ (map (to_all (at s)) first ++ to_all (at s) (prepare_message (at s).place (at s).view b) ∷ []))
   unfolding view_of
@@ -303,7 +281,8 @@ module _ (su : Setup) (i : ℕ) (bounded : IsBounded su) (correct : is_in i su.b
       subst (λ d. Made signed s (does keys d signed (at s))) same
       (accepts_made signed s is b
       (acceptances_allowed su s.told i (at s).place (at s).view (keys.accepts signed) b by (bounded_at s) due)
-      (acceptance_fits (keys.accepts signed) su s.told i (at s).place (at s).view b by (fits_at s is) due) [] tt)
+      (acceptance_fits (keys.accepts signed) su s.told i (at s).place (at s).view b by (fits_at s is) due)
+      [] tt)
 
   -- PREPARE
 
@@ -315,7 +294,8 @@ module _ (su : Setup) (i : ℕ) (bounded : IsBounded su) (correct : is_in i su.b
       let now = due_is (at s).place (at s).view d due in
       let g = facts_of s.past in
       let e = (config_of su i g).number in
-      let fits = (accepted_is su s.told i s.past is.node e (view i e g) (height i g) now.block now.accepted).fits in
+      let fits = (accepted_is su s.told i s.past is.node e (view i e g) (height i g) now.block
+      now.accepted).fits in
       (fits.number, subst IsDigest now.digest (hash_fits now.block))
 
   prepares_made : (signed : List (List ℕ)) (s : Now) → Moment su i s → (d : List ℕ)
@@ -327,7 +307,8 @@ module _ (su : Setup) (i : ℕ) (bounded : IsBounded su) (correct : is_in i su.b
       let w = (at s).view in
       let f = Prepared i place.config.number w.view place.height d in
       let fits = prepared_fits s is d due in
-      let ok : Allowed su s.told f = preparations_allowed su s.told i place w d (stands_at s is) (bounded_at s) due in (
+      let ok : Allowed su s.told f = preparations_allowed su s.told i place w d (stands_at s is)
+      (bounded_at s) due in (
         record {
           fits = refl;
           allowed = record { mine = (eq-eqb i i refl, tt); allowed = (ok, tt); good = tt };
@@ -335,7 +316,8 @@ module _ (su : Setup) (i : ℕ) (bounded : IsBounded su) (correct : is_in i su.b
           by_keys = tt;
           due = tt;
         },
-        commits_made signed (record { told = f ∷ s.told; past = Did (preparation place w d) ∷ s.past }) (at s) d
+        commits_made signed (record { told = f ∷ s.told; past = Did (preparation place w d) ∷ s.past })
+            (at s) d
             (members_at s) (fits_at s is) fits.0 fits.1
             (or_left _ _ (prepared_itself i place.config.number w.view place.height d)),
       )
@@ -377,7 +359,8 @@ module _ (su : Setup) (i : ℕ) (bounded : IsBounded su) (correct : is_in i su.b
   delivers_made signed s is b cert due =
       let last = stands_last su s.told i s.past is.node is.run bounded.genesis (genesis_first su bounded) in
       let ok : Allowed su s.told (Delivered i b (proof_of.Bft cert)) =
-      deliveries_allowed su s.told i (at s).place (at s).view b cert (stands_at s is) last (bounded_at s) due in (
+      deliveries_allowed su s.told i (at s).place (at s).view b cert (stands_at s is) last (bounded_at s)
+      due in (
         record {
           fits = refl;
           allowed = record {
@@ -422,11 +405,13 @@ module _ (su : Setup) (i : ℕ) (bounded : IsBounded su) (correct : is_in i su.b
   then_made rule signed s made is all more =
       let later = after_all made s in
       let here = later_moment su i keys signed s made all is in
-      made_append su i keys signed s made (rule (signed ++ statements_of made) (after_entries made (at s))) all
+      made_append su i keys signed s made (rule (signed ++ statements_of made) (after_entries made (at s)))
+      all
       (subst (λ c. Made (signed ++ statements_of made) later (rule (signed ++ statements_of made) c))
       (seen_later su i keys signed s made all is) (more later here refl))
 
-  duty_made : (rest : Rule) → ((signed : List (List ℕ)) (s : Now) → Moment su i s → Made signed s (rest signed (at s)))
+  duty_made : (rest : Rule) → ((signed : List (List ℕ)) (s : Now) → Moment su i s
+      → Made signed s (rest signed (at s)))
       → (signed : List (List ℕ)) (s : Now) → Moment su i s → (o : Option Duty)
       → duty (keys.accepts signed) (at s) ≡ o → Made signed s (for_duty keys rest o signed (at s))
   duty_made rest more signed s is None due = tt
@@ -452,11 +437,13 @@ module _ (su : Setup) (i : ℕ) (bounded : IsBounded su) (correct : is_in i su.b
       let fits : FitsAt place.height b = proposal_fits place w offer b (fits_at s is) small at_o in
       accepts_made signed s is b
       (proposals_allowed su s.told i place w offer b (stands_at s is) (bounded_at s) at_o) fits
-      (preprepare_message place w b ∷ [])
-      (record {
-        ground = or_left _ _ (accepted_itself i place.config.number w.view place.height (block_hash b));
-        spelled = preprepare_fits place w b (fits_at s is) fits;
-      }, tt)
+      (preprepare_message place w b ∷ []) (
+        record {
+          ground = or_left _ _ (accepted_itself i place.config.number w.view place.height (block_hash b));
+          spelled = preprepare_fits place w b (fits_at s is) fits;
+        },
+        tt,
+      )
 
   offered_made : (signed : List (List ℕ)) (s : Now) → Moment su i s → (o : Option (List Request))
       → ((offer : List Request) → o ≡ Some offer → All HasRequestSpelling offer)
@@ -468,7 +455,8 @@ module _ (su : Setup) (i : ℕ) (bounded : IsBounded su) (correct : is_in i su.b
   -- WHAT IS SENT AGAIN at the first tick
 
   votes_good : (s : Now) → Moment su i s → (b : Block)
-      → has (is_accepted i (at s).place.config.number (at s).view.view (at s).place.height (block_hash b)) s.told
+      → has (is_accepted i (at s).place.config.number (at s).view.view (at s).place.height (block_hash b))
+      s.told
       ≡ true
       → FitsAt (at s).place.height b
       → AllByRecursion (IsGoodMessage s.told i) (repeated_votes (at s).place (at s).view b)
@@ -497,7 +485,8 @@ module _ (su : Setup) (i : ℕ) (bounded : IsBounded su) (correct : is_in i su.b
       go false first last = (last, tt)
 
   again_made : (signed : List (List ℕ)) (s : Now) → Moment su i s → (f : Found) → IsFound s.told i f
-      → is_current (at s).place (at s).view f ≡ true → Made signed s (repeats_found keys (Some f) signed (at s))
+      → is_current (at s).place (at s).view f ≡ true
+      → Made signed s (repeats_found keys (Some f) signed (at s))
   again_made signed s is f found stands =
       let here = found_here s.told i (at s).place (at s).view f found stands in
       sends_then signed s (at s) (members_at s) (repeated_votes (at s).place (at s).view f.block)
@@ -514,7 +503,8 @@ module _ (su : Setup) (i : ℕ) (bounded : IsBounded su) (correct : is_in i su.b
           → Made signed (record { told = s.told; past = past })
           (commits_if t keys signed (at s) (block_hash f.block))
       go past true prepared =
-          commits_made signed (record { told = s.told; past = past }) (at s) (block_hash f.block) (members_at s)
+          commits_made signed (record { told = s.told; past = past }) (at s) (block_hash f.block)
+          (members_at s)
           (fits_at s is) number (hash_fits f.block) (prepared refl)
       go past false prepared = tt
 
@@ -533,7 +523,8 @@ module _ (su : Setup) (i : ℕ) (bounded : IsBounded su) (correct : is_in i su.b
   repeats_made signed s is found event each = go (is_tick event)
     where
       go : (t : Bool)
-          → Made signed s (repeats_found keys (cond t (current (at s).place (at s).view found) None) signed (at s))
+          → Made signed s (repeats_found keys (cond t (current (at s).place (at s).view found) None) signed
+          (at s))
       go true = current_made signed s is found each (current (at s).place (at s).view found) refl
       go false = tt
 
@@ -563,7 +554,8 @@ module _ (su : Setup) (i : ℕ) (bounded : IsBounded su) (correct : is_in i su.b
       let came_is = comes_made s event good in
       let again_is : Made [] s again = then_made (repeats keys found event) [] s came is came_is
       (λ later here same. repeats_made (statements_of came) later here found event
-      (λ f at_f. subst (λ (later : Now). IsFound later.told i f) (sym same) (found_is su s.told i s.past is.run is.node f at_f))) in
+      (λ f at_f. subst (λ (later : Now). IsFound later.told i f) (sym same)
+      (found_is su s.told i s.past is.run is.node f at_f))) in
       let ruled_is : Made [] s ruled = then_made (own_rule event) [] s again is again_is
       (λ later here same. offered_made (statements_of again) later here (offer_in event) good.offer) in
       then_made (all_due keys) [] s ruled is ruled_is

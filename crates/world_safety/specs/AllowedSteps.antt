@@ -25,16 +25,15 @@ use Rattle.safety_model.specs.Blocks.{Request}
 use Rattle.safety_model.specs.Facts.{History, has, is_prepared}
 use Rattle.safety_model.specs.Rules.{Allowed, IsRun, actor, bound_of, faulty}
 use Rattle.safety_model.specs.Safety.{IsGenesis}
-use Rattle.safety_model.specs.State.{Setup}
+use Rattle.safety_model.specs.State.{Setup, changes_view}
 use Rattle.safety_model.specs.declared.fact.Fact.{Fact}
-use Rattle.safety_model.specs.declared.fact.Fact.TheVariants.{Left, Entered}
 use Rattle.bft_wire.specs.Messages.{HasMessageSpelling}
 use Rattle.bft_wire.specs.declared.message.Message.{Message}
 use Rattle.view_model.specs.declared.letter.Letter.{Letter}
 use Rattle.view_model.specs.declared.letter.VoteMessage.TheVariants as message_of
 use Rattle.view_model.specs.Letters.{on_wire}
 use Rattle.node_model.specs.declared.event.Event.{Event}
-use Rattle.node_model.specs.Cores.{Core, after_entries}
+use Rattle.node_model.specs.Cores.{after_entries}
 use Rattle.node_model.specs.Entries.{
   Came,
   Commits,
@@ -78,8 +77,8 @@ pub record IsBrought (su : Setup) (h : History) (letter : Letter) : Type 0 where
   pub rests : IsTrue (rests su h letter)
   pub fits : MessageFits letter.message
 
--- what an event brings is good: the requests have a spelling, and so has the vote message that the bytes spell,
--- which rests on a fact
+-- what an event brings is good: the requests have a spelling, and so has the vote message that the bytes
+-- spell, which rests on a fact
 pub record IsGoodEvent (su : Setup) (h : History) (event : Event) : Type 0 where
   pub offer : (rs : List Request) → offer_in event ≡ Some rs → All HasRequestSpelling rs
   pub letter : (letter : Letter) → letter_brought event ≡ Some letter → IsBrought su h letter
@@ -107,14 +106,9 @@ IsGoodEntry su h i (Did deed) = DeedFits deed
 IsGoodEntry su h i (Signed pledge accepts) = IsGoodPledge h i pledge
 IsGoodEntry su h i (Sent receivers message) = IsGoodSending su.config.members h i receivers message
 
--- node i left its view, or entered one
-abbrev pub changes_view : ℕ → Fact → Bool
-changes_view i (Left j e v) = j == i
-changes_view i (Entered j e v x choice) = j == i
-changes_view i _ = false
-
--- Node i with this past, where these are all facts: the history has the facts of its past, in their order, and
--- no others of this node; it never left or entered a view; and all that stands in its past rests on the history.
+-- Node i with this past, where these are all facts: the history has the facts of its past, in their order,
+-- and no others of this node; it never left or entered a view; and all that stands in its past rests on the
+-- history.
 pub record NodeStands (su : Setup) (h : History) (i : ℕ) (past : Past) : Type 0 where
   pub own : own i h ≡ facts_of past
   pub still : has (changes_view i) h ≡ false
@@ -135,8 +129,9 @@ abbrev pub AreAllowed : Setup → History → List Fact → Type 0
 AreAllowed su h [] = ⊤
 AreAllowed su h (f ∷ facts) = Allowed su (facts ++ h) f × AreAllowed su h facts
 
--- An entry of node i: its facts are the node's own, and allowed by the history, and by the history with them it
--- is good: a signed Commit is of what the node prepared by then, and a message rests on what it did by then.
+-- An entry of node i: its facts are the node's own, and allowed by the history, and by the history with
+-- them it is good: a signed Commit is of what the node prepared by then, and a message rests on what it did
+-- by then.
 pub record IsAllowedEntry (su : Setup) (i : ℕ) (h : History) (entry : Entry) : Type 0 where
   pub mine : AllByRecursion (λ f. IsTrue (actor f == i)) (facts_in entry)
   pub allowed : AreAllowed su h (facts_in entry)
@@ -151,8 +146,8 @@ IsAllowedStep su i h (entry ∷ entries) =
 -- THE LAWS
 
 -- The history is a run in which the node stands, which is correct, and no more members lie than the bound
--- allows; what comes rests on it, and the keys sign with what has a spelling. Of the signatures that they accept
--- nothing is asked.
+-- allows; what comes rests on it, and the keys sign with what has a spelling. Of the signatures that they
+-- accept nothing is asked.
 pub record MayStep (su : Setup) (h : History) (keys : Keys) (n : PastNode) (event : Event) : Type 0 where
   pub bounded : IsBounded su
   pub correct : is_in n.id su.byzantine ≡ false
@@ -161,14 +156,14 @@ pub record MayStep (su : Setup) (h : History) (keys : Keys) (n : PastNode) (even
   pub signs : SignsFit keys
 
 -- the entries of a step from a past
-abbrev pub made_of : Keys → PastNode → Event → List Entry
-made_of keys n event = step keys (core_of_past n) event
+abbrev pub past_step : Keys → PastNode → Event → List Entry
+past_step keys n event = step keys (core_of_past n) event
 
 -- all that a step makes is allowed, from a past
 abbrev pub StepsAreAllowed : Type 0
 StepsAreAllowed =
     (su : Setup) (h : History) (keys : Keys) (n : PastNode) (event : Event) → MayStep su h keys n event
-    → IsAllowedStep su n.id h (made_of keys n event)
+    → IsAllowedStep su n.id h (past_step keys n event)
 
 -- And in place: where nothing stood ahead of a node's height, and these entries fitted, one after another, it
 -- steps from the state that they left, updated in place.
@@ -178,24 +173,25 @@ StepsInPlaceAreAllowed =
     → NothingAhead n → AllFit before (core_of_past n) → MayStep su h keys (with_entries before n) event
     → IsAllowedStep su n.id h (step keys (after_entries before (core_of_past n)) event)
 
--- A node stands from its first opening on: after each of its steps by the history with the step's facts, after
--- one that was stopped and the opening behind it by the history with those that were kept, after an opening
--- between two steps, and after a fact of another node.
+-- A node stands from its first opening on: after each of its steps by the history with the step's facts,
+-- after one that was stopped and the opening behind it by the history with those that were kept, after an
+-- opening between two steps, and after a fact of another node.
 abbrev pub NodesStandAtFirst : Type 0
 NodesStandAtFirst = (su : Setup) (i : ℕ) → NodeStands su [] i (Opened ∷ [])
 
 abbrev pub NodesStandAfterSteps : Type 0
 NodesStandAfterSteps =
     (su : Setup) (h : History) (keys : Keys) (n : PastNode) (event : Event) → MayStep su h keys n event
-    → StandsIn su (reverse (facts_of (made_of keys n event)) ++ h) n.id (with_entries (made_of keys n event) n)
+    → StandsIn su (reverse (facts_of (past_step keys n event)) ++ h) n.id
+    (with_entries (past_step keys n event) n)
 
 -- a stop leaves a front of the step's entries
 abbrev pub NodesStandAfterStops : Type 0
 NodesStandAfterStops =
     (su : Setup) (h : History) (keys : Keys) (n : PastNode) (event : Event) (cut : ℕ)
     → MayStep su h keys n event
-    → StandsIn su (reverse (facts_of (take cut (made_of keys n event))) ++ h) n.id
-        (with_entries (take cut (made_of keys n event) ++ Opened ∷ []) n)
+    → StandsIn su (reverse (facts_of (take cut (past_step keys n event))) ++ h) n.id
+    (with_entries (take cut (past_step keys n event) ++ Opened ∷ []) n)
 
 abbrev pub NodesStandAfterOpenings : Type 0
 NodesStandAfterOpenings =
