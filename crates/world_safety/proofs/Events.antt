@@ -1,5 +1,23 @@
 -- Every event keeps a good world, also one in which its node is stopped.
-use Rattle.std.proofs.Common.{◌≡◌, ℕ, Bool, true, false, List, [], ◌∷◌, ◌++◌, cond, reverse, take, refl, sym, subst, ap, ◌∙◌}
+use Rattle.std.proofs.Common.{
+  ◌≡◌,
+  ℕ,
+  Bool,
+  true,
+  false,
+  List,
+  [],
+  ◌∷◌,
+  ◌++◌,
+  cond,
+  reverse,
+  take,
+  refl,
+  sym,
+  subst,
+  ap,
+  ◌∙◌,
+}
 use Rattle.std.specs.Prelude.{◌==◌, not}
 use Rattle.std.specs.List.{AllByRecursion}
 use Rattle.std.proofs.lemmas.List.Elements.{All-filter, All-nil}
@@ -13,7 +31,23 @@ use Rattle.safety_model.specs.Rules.{actor}
 use Rattle.signer_edge.specs.Seals.{is_sealed}
 use Rattle.bft_wire.specs.Spelling.{message_text}
 use Rattle.node_model.specs.declared.event.Event.{Event}
-use Rattle.node_model.specs.Entries.{Came, Commits, Did, Entry, Opened, Post, Sent, Signed, facts_in, facts_of, posts_in, posts_of, statements_in, statements_of, stored_of}
+use Rattle.node_model.specs.Entries.{
+  Came,
+  Commits,
+  Did,
+  Entry,
+  Opened,
+  Post,
+  Sent,
+  Signed,
+  facts_in,
+  facts_of,
+  posts_in,
+  posts_of,
+  statements_in,
+  statements_of,
+  stored_of,
+}
 use Rattle.node_model.specs.Keeping.{PastNode, with_entries, with_entry}
 use Rattle.world_model.specs.Histories.{past_keeping, past_setting}
 use Rattle.world_model.specs.Pools.{has_id}

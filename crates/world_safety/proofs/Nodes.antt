@@ -83,9 +83,28 @@ use Rattle.node_model.specs.Entries.{
   facts_of,
   letter_brought,
 }
-use Rattle.node_model.specs.Keeping.{accepted_block, firsts, is_of_view, is_timely, kept, letter_of, of_another, own_letters, place_of, timely, view_of}
+use Rattle.node_model.specs.Keeping.{
+  accepted_block,
+  firsts,
+  is_of_view,
+  is_timely,
+  kept,
+  letter_of,
+  of_another,
+  own_letters,
+  place_of,
+  timely,
+  view_of,
+}
 use Rattle.world_safety.specs.Resting.{has_ground, own}
-use Rattle.world_safety.specs.AllowedSteps.{IsBrought, IsGoodEntry, IsGoodEvent, IsGoodPledge, NodeStands, rests}
+use Rattle.world_safety.specs.AllowedSteps.{
+  IsBrought,
+  IsGoodEntry,
+  IsGoodEvent,
+  IsGoodPledge,
+  NodeStands,
+  rests,
+}
 use Rattle.world_safety.proofs.Standing.{IsKeptWell, Stands, StandsLast, names}
 use Rattle.world_safety.specs.Fits.{DeedFits, FitsAt, MessageFits}
 use Rattle.world_safety.proofs.Lists.{all_append, all_filter, all_map, all_reverse}

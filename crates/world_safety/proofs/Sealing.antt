@@ -1,5 +1,21 @@
 -- What a node keeps is signed in the box of seals, and so what it delivers is certified.
-use Rattle.std.proofs.Common.{◌≡◌, ℕ, true, ◌&&◌, List, [], ◌∷◌, ◌++◌, reverse, refl, sym, subst, ap, ◌∙◌, Some}
+use Rattle.std.proofs.Common.{
+  ◌≡◌,
+  ℕ,
+  true,
+  ◌&&◌,
+  List,
+  [],
+  ◌∷◌,
+  ◌++◌,
+  reverse,
+  refl,
+  sym,
+  subst,
+  ap,
+  ◌∙◌,
+  Some,
+}
 use Rattle.std.specs.Prelude.{◌==◌, filter, not}
 use Rattle.std.specs.List.{AllByRecursion}
 use Rattle.std.proofs.lemmas.Bool.{and_from, and_parts}
@@ -36,7 +52,26 @@ use Rattle.view_model.specs.declared.letter.VoteMessage.{VoteMessage}
 use Rattle.view_model.specs.Acts.{delivery_due}
 use Rattle.view_model.specs.Answers.{is_near, is_signed}
 use Rattle.view_model.specs.Letters.{config_in, view_in}
-use Rattle.node_model.specs.Entries.{Accepts as Accepting, Came, Commits, Deed, Delivers, Did, Enters, Entry, Leaves, Opened, Past, Prepares, Sent, Signed, facts_in, facts_of, statement_of, statements_of}
+use Rattle.node_model.specs.Entries.{
+  Accepts as Accepting,
+  Came,
+  Commits,
+  Deed,
+  Delivers,
+  Did,
+  Enters,
+  Entry,
+  Leaves,
+  Opened,
+  Past,
+  Prepares,
+  Sent,
+  Signed,
+  facts_in,
+  facts_of,
+  statement_of,
+  statements_of,
+}
 use Rattle.node_model.specs.Keeping.{
   is_of_view,
   is_timely,

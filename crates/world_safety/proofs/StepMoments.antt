@@ -1,5 +1,32 @@
 -- The moments of a step: the run so far, and the node that stands in it; and what is so of each entry.
-use Rattle.std.proofs.Common.{◌≡◌, ℕ, ◌+◌, ◌≤◌, zero, suc, inl, inr, true, false, ◌&&◌, List, [], ◌∷◌, ◌++◌, reverse, take, refl, sym, subst, ap, ◌∙◌, Option, Some, None, arith}
+use Rattle.std.proofs.Common.{
+  ◌≡◌,
+  ℕ,
+  ◌+◌,
+  ◌≤◌,
+  zero,
+  suc,
+  inl,
+  inr,
+  true,
+  false,
+  ◌&&◌,
+  List,
+  [],
+  ◌∷◌,
+  ◌++◌,
+  reverse,
+  take,
+  refl,
+  sym,
+  subst,
+  ap,
+  ◌∙◌,
+  Option,
+  Some,
+  None,
+  arith,
+}
 use Rattle.std.specs.Prelude.{◌==◌, filter, nat_le, not}
 use Rattle.std.specs.List.{AllByRecursion}
 use Rattle.std.proofs.lemmas.Bool.{and_parts, eqb-true, false_from_ne_true, or_cases}
