@@ -1,4 +1,5 @@
 mod ActLemmas
+mod CallLemmas
 mod CommitLemmas
 mod EventLemmas
 mod Folds
@@ -12,13 +13,12 @@ mod PlaceLemmas
 mod RepeatLemmas
 mod Recoverings
 mod Resumed
-mod RuleLemmas
+mod ToldLemmas
 mod Running
 mod SigningLemmas
 mod SpelledLemmas
 mod Standings
 mod Stands
 mod StepDeeds
-mod StepLemmas
 mod Takings
 mod ViewLemmas
