@@ -163,13 +163,13 @@ const IMAGES: [(Image, bool); 3] = [
     (Image::Fill(0xff), true),
 ];
 
-// How many deeds stand after a stop at this counted call of a step. Each takes four: it stands where the third,
-// that opens its gate, was made, and in a stop at it or behind it where the image opens the gate.
-fn standing(call: u32, opens: bool) -> usize {
-    let before = (call - 1) / 4;
-    let within = (call - 1) % 4;
-    let more = within >= 2 && opens;
-    before as usize + usize::from(more)
+// How many deeds are still to be done where so many stand and the first was.
+fn left_to_do(found: usize) -> usize {
+    match found {
+        1 => 2,
+        2 => 1,
+        _ => 0,
+    }
 }
 
 // What a step came to whose disk stopped, and the next one, and the disk that it leaves.
@@ -233,6 +233,8 @@ fn open_again(
     })
 }
 
+// A deed takes four counted calls, of which the third opens the gate of its entry: it stands where a stop at that
+// one or the next leaves the gate open.
 #[test]
 fn a_node_that_failed_is_closed(rt: HostRuntime) -> Result<(), Fail> {
     let alloc = rt.alloc();
@@ -241,23 +243,25 @@ fn a_node_that_failed_is_closed(rt: HostRuntime) -> Result<(), Fail> {
         genesis: config_of_one(alloc)?,
     };
     for (image, opens) in IMAGES {
-        for call in 1..=12 {
-            let mut seat = SealBox::new(alloc)?.seat(7);
-            let stopped = stop(alloc, &setup, call, image, &mut seat)?;
-            assert_eq!(rt; stopped.first, Err(NodeFault::Disk));
-            assert_eq!(rt; stopped.second, Err(NodeFault::Closed));
-            assert!(rt; !stopped.may_propose);
-            let mut left = crashed(stopped.quiet, image)?;
-            let found = standing(call, opens);
-            let rest = if found == 0 { 0 } else { 3 - found };
-            assert_eq!(rt;
-                open_again(alloc, &setup, &mut left, &mut seat)?,
-                Again {
-                    found,
-                    first: Ok(deeds(rest)),
-                    height: 2,
-                }
-            );
+        for done in 0..3 {
+            for within in 0..4 {
+                let mut seat = SealBox::new(alloc)?.seat(7);
+                let stopped = stop(alloc, &setup, 4 * done + within + 1, image, &mut seat)?;
+                assert_eq!(rt; stopped.first, Err(NodeFault::Disk));
+                assert_eq!(rt; stopped.second, Err(NodeFault::Closed));
+                assert!(rt; !stopped.may_propose);
+                let mut left = crashed(stopped.quiet, image)?;
+                let more = within >= 2 && opens;
+                let found = done as usize + usize::from(more);
+                assert_eq!(rt;
+                    open_again(alloc, &setup, &mut left, &mut seat)?,
+                    Again {
+                        found,
+                        first: Ok(deeds(left_to_do(found))),
+                        height: 2,
+                    }
+                );
+            }
         }
     }
     Ok(())
