@@ -1,11 +1,12 @@
 -- The lines of the grammar: for each its first word, and the fields behind it in order, each with the words that may stand there.
-use Rattle.std.specs.Prelude.{◌≡◌, ℕ, ◌-◌, ◌^◌, ◌≤◌, ◌++◌, ◌⊎◌, List, [], ◌∷◌, length, codes}
+use Rattle.std.specs.Prelude.{◌≡◌, false, ℕ, ◌+◌, ◌-◌, ◌^◌, ◌≤◌, ◌++◌, ◌⊎◌, List, [], ◌∷◌, length, codes}
 use Rattle.std.specs.List.{join_with_byte, AllZip}
 use Rattle.std.specs.Fmt.{decimal}
 use Rattle.script.specs.declared.command.Range.{Range}
 use Rattle.script.specs.declared.command.Image.{Image}
 use Rattle.script.specs.declared.command.VoteKind.{VoteKind}
-use Rattle.script.specs.Words.{Word}
+use Rattle.script.specs.Words.{Word, words}
+use Rattle.script.specs.Later.{is_later_line}
 use Rattle.script.specs.Commands.{AreIds, AreBytes, AreRanges, IsImage}
 use Rattle.script.specs.Printed.{hex_text, ids_text, first_last_text, vote_text, image_text}
 
@@ -116,23 +117,56 @@ pub record Form : Type 0 where
 abbrev pub form : List ℕ → List Field → Form
 form name fields = record { name = name; fields = fields }
 
+abbrev pub genesis_form : Form
+genesis_form = form (codes "genesis") (Needed (This (codes "bft")) ∷ Needed Ids ∷ Optional Batch ∷ Optional Byzantine ∷ [])
+
+abbrev pub submit_form : Form
+submit_form = form (codes "submit") (Needed Node ∷ Needed Client ∷ Needed Serial ∷ Needed Hex ∷ [])
+
+abbrev pub raw_form : Form
+raw_form = form (codes "raw") (Needed Node ∷ Needed Hex ∷ [])
+
+abbrev pub tick_form : Form
+tick_form = form (codes "tick") (Needed Node ∷ Optional Ticks ∷ [])
+
+abbrev pub deliver_form : Form
+deliver_form = form (codes "deliver") (Needed Ranges ∷ [])
+
+abbrev pub flush_form : Form
+flush_form = form (codes "flush") (Optional Ids ∷ [])
+
+abbrev pub show_form : Form
+show_form = form (codes "show") (Needed Node ∷ Needed Number ∷ [])
+
+abbrev pub stop_form : Form
+stop_form = form (codes "stop") (Needed Node ∷ Needed Mode ∷ [])
+
+abbrev pub stop_at_form : Form
+stop_at_form = form (codes "stop-at") (Needed Node ∷ Needed Call ∷ Needed Mode ∷ [])
+
+abbrev pub start_form : Form
+start_form = form (codes "start") (Needed Node ∷ [])
+
+abbrev pub propose_form : Form
+propose_form = form (codes "byz-propose") (Needed Node ∷ Needed Node ∷ Needed Number ∷ Needed Client ∷ Needed Serial ∷ Needed Payload ∷ [])
+
+abbrev pub vote_form : Form
+vote_form = form (codes "byz-vote") (Needed Node ∷ Needed Node ∷ Needed Vote ∷ Needed Number ∷ Needed Number ∷ [])
+
+abbrev pub lie_form : Form
+lie_form = form (codes "lie") (Needed Node ∷ Needed Node ∷ Needed Hex ∷ [])
+
+abbrev pub seal_form : Form
+seal_form = form (codes "seal") (Needed Client ∷ Needed Hex ∷ [])
+
+abbrev pub byzantine_forms : List Form
+byzantine_forms = propose_form ∷ vote_form ∷ lie_form ∷ seal_form ∷ []
+
+abbrev pub stopping_forms : List Form
+stopping_forms = stop_form ∷ stop_at_form ∷ start_form ∷ byzantine_forms
+
 abbrev pub forms : List Form
-forms =
-    form (codes "genesis") (Needed (This (codes "bft")) ∷ Needed Ids ∷ Optional Batch ∷ Optional Byzantine ∷ [])
-    ∷ form (codes "submit") (Needed Node ∷ Needed Client ∷ Needed Serial ∷ Needed Hex ∷ [])
-    ∷ form (codes "raw") (Needed Node ∷ Needed Hex ∷ [])
-    ∷ form (codes "tick") (Needed Node ∷ Optional Ticks ∷ [])
-    ∷ form (codes "deliver") (Needed Ranges ∷ [])
-    ∷ form (codes "flush") (Optional Ids ∷ [])
-    ∷ form (codes "show") (Needed Node ∷ Needed Number ∷ [])
-    ∷ form (codes "stop") (Needed Node ∷ Needed Mode ∷ [])
-    ∷ form (codes "stop-at") (Needed Node ∷ Needed Call ∷ Needed Mode ∷ [])
-    ∷ form (codes "start") (Needed Node ∷ [])
-    ∷ form (codes "byz-propose") (Needed Node ∷ Needed Node ∷ Needed Number ∷ Needed Client ∷ Needed Serial ∷ Needed Payload ∷ [])
-    ∷ form (codes "byz-vote") (Needed Node ∷ Needed Node ∷ Needed Vote ∷ Needed Number ∷ Needed Number ∷ [])
-    ∷ form (codes "lie") (Needed Node ∷ Needed Node ∷ Needed Hex ∷ [])
-    ∷ form (codes "seal") (Needed Client ∷ Needed Hex ∷ [])
-    ∷ []
+forms = genesis_form ∷ submit_form ∷ raw_form ∷ tick_form ∷ deliver_form ∷ flush_form ∷ show_form ∷ stopping_forms
 
 abbrev pub IsOfForm : Form → List (List ℕ) → Type 0
 IsOfForm form [] = ⊥
@@ -173,3 +207,23 @@ pub record LacksWord (Line : List (List ℕ) → Type 0) (past : ℕ) (ws : List
 -- the place of the first word at which no line goes on
 abbrev pub IsFirstWrong : (List (List ℕ) → Type 0) → ℕ → List Word → ℕ → Type 0
 IsFirstWrong Line past ws place = IsWrongAt Line ws place ⊎ LacksWord Line past ws place
+
+-- a line that is neither empty nor a comment
+abbrev pub HasWords : List ℕ → Type 0
+HasWords [] = ⊥
+HasWords (b ∷ line) = b ≡ 35 → ⊥
+
+-- a line that is neither empty nor a comment, and belongs to no later part
+pub record IsBuilt (line : List ℕ) : Type 0 where
+  pub has_words : HasWords line
+  pub not_later : is_later_line (words 1 line) ≡ false
+
+-- a line of the grammar
+pub record IsGrammatical (line : List ℕ) : Type 0 where
+  pub built : IsBuilt line
+  pub is_line : IsLine (texts (words 1 line))
+
+-- a line that isn't of the grammar, by the place of its first wrong word
+pub record IsWrong (line : List ℕ) (place : ℕ) : Type 0 where
+  pub built : IsBuilt line
+  pub first : IsFirstWrong IsLine (length line + 1) (words 1 line) place
