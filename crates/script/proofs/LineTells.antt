@@ -1,5 +1,5 @@
 -- Each line's reading tells of its form.
-use Rattle.std.proofs.Common.{codes, ◌≡◌, subst, get_or, arith, ℕ, ◌^◌, ◌-◌, ◌⊎◌, inl, inr, List, [], ◌∷◌, ◌++◌, cond, Bool, true, false, ◌&&◌, not, refl, sym, ap, ◌∙◌, Option, Some, None, Result, Ok, Err}
+use Rattle.std.proofs.Common.{codes, ◌≡◌, subst, get_or, ◌==◌, ℕ, ◌^◌, ◌-◌, ◌⊎◌, inl, inr, List, [], ◌∷◌, ◌++◌, cond, Bool, true, false, ◌&&◌, not, refl, sym, ap, ◌∙◌, Option, Some, None, Result, Ok, Err}
 use Rattle.std.proofs.lemmas.Bool.{false≢true}
 use Rattle.std.proofs.lemmas.Slice.Eq.{bytes_eq-Decides}
 use Rattle.std.specs.Str.{bytes_eq}
@@ -17,14 +17,14 @@ use Rattle.script.specs.Forms.Field.{Needed, Optional}
 use Rattle.script.proofs.KindTexts.{Agrees, this_agrees, node_agrees, client_agrees, serial_agrees, entry_agrees, ticks_agree, call_agrees, hex_agrees, payload_agrees, ids_agree, given_ids_agree, ranges_agree, vote_agrees, mode_agrees, given_batch_agrees, byzantine_agrees}
 use Rattle.script.proofs.FirstWrong.{Explains, Tells, AreSame, IsApart, apart_from_end, explain_end, explain_needed, explain_optional, explain_last, tells_same, tells_cons, tells_at}
 
--- an option that begins otherwise
+-- options that begin otherwise
+begin_apart : (rest more : List ℕ) → codes "batch=" ++ rest ≡ codes "byz=" ++ more → ⊥
+begin_apart rest more e = false≢true (ap (λ (text : List ℕ). get_or text 1 0 == 121) e)
+
 batch_is_apart : IsApart Batch (Optional Byzantine ∷ [])
 unfolding IsApart
 batch_is_apart text stands (left, inl other) = other
-batch_is_apart text stands (left, inr both) =
-    let same : codes "batch=" ++ stands.rest ≡ codes "byz=" ++ both.0.rest = sym stands.spelled ∙ both.0.spelled in
-    let second : 97 ≡ 121 = ap (λ (letters : List ℕ). get_or letters 1 0) same in
-    absurd (omega arith)
+batch_is_apart text stands (left, inr both) = begin_apart stands.rest both.0.rest (sym stands.spelled ∙ both.0.spelled)
 
 genesis_tells : (past : ℕ) (ws : List Word) → Explains (Needed (This (codes "bft")) ∷ Needed Ids ∷ Optional Batch ∷ Optional Byzantine ∷ []) past ws (genesis_line past ws)
 unfolding genesis_line
