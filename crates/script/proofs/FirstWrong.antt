@@ -4,7 +4,7 @@ use Rattle.script.specs.declared.command.Stop.{Stop}
 use Rattle.script.specs.declared.command.Stop.TheVariants.{Malformed, NotBuilt}
 use Rattle.script.specs.Words.{Word}
 use Rattle.script.specs.Reading.{◌>>=◌, field, field_or, fitted, taken, optional, no_more}
-use Rattle.script.specs.Forms.{Kind, Stands, Field, AreInFields, texts, GoesOn, IsWrongAt, LacksWord, IsFirstWrong}
+use Rattle.script.specs.Forms.{Kind, Stands, Field, AreInFields, texts, GoesOn, IsWrongAt, IsFirstWrong}
 use Rattle.script.specs.Forms.Field.{Needed, Optional}
 use Rattle.script.proofs.KindTexts.{Agrees}
 

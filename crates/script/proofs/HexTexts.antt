@@ -1,5 +1,5 @@
 -- Bytes that are printed in hex are read, and what is read as bytes was printed.
-use Rattle.std.proofs.Common.{codes, ◌≡◌, ℕ, ◌+◌, ◌-◌, ◌*◌, ◌/◌, ◌%◌, ◌^◌, ◌<◌, ◌≤◌, List, [], ◌∷◌, ◌++◌, length, cond, Bool, true, false, refl, sym, ap, ◌∙◌, arith, Option, Some, None, ◌&&◌, nat_lt, nat_le, ◌==◌}
+use Rattle.std.proofs.Common.{codes, ◌≡◌, ℕ, ◌+◌, ◌-◌, ◌*◌, ◌/◌, ◌%◌, ◌<◌, ◌≤◌, List, [], ◌∷◌, length, cond, Bool, true, false, refl, ap, ◌∙◌, arith, Option, Some, None, ◌&&◌, nat_lt, nat_le, ◌==◌}
 use Rattle.std.proofs.lemmas.Bool.{leb-true, ne_eqb}
 use Rattle.std.proofs.lemmas.Bool.Decides.{nat_tests}
 use Rattle.std.proofs.lemmas.Slice.Eq.{bytes_eq-Decides}
@@ -7,7 +7,7 @@ use Rattle.std.specs.Str.{bytes_eq}
 use Rattle.script.specs.Fields.{is_digit, nibble, pair_of, onto, pairs_of, hex_of, payload_of}
 use Rattle.script.specs.Commands.{AreBytes}
 use Rattle.script.specs.Printed.{hex_digit, hex_pairs, hex_text}
-use Rattle.script.proofs.FieldFits.{picked, passed, both}
+use Rattle.script.proofs.FieldFits.{passed, both}
 use Rattle.script.proofs.NumberTexts.{IsPlain}
 
 nibble_prints : (n : ℕ) → n < 16 → nibble (hex_digit n) ≡ Some n

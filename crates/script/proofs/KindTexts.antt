@@ -1,5 +1,5 @@
 -- The words of each kind are those that its field fits.
-use Rattle.std.proofs.Common.{codes, ◌≡◌, ℕ, ◌+◌, ◌-◌, ◌*◌, ◌^◌, ◌<◌, ◌≤◌, List, [], ◌∷◌, ◌++◌, length, cond, Bool, true, false, refl, sym, ap, ◌∙◌, arith, Option, Some, None, option_map, nat_eq, nat_le, ◌==◌, inr, drop}
+use Rattle.std.proofs.Common.{codes, ◌≡◌, ℕ, ◌-◌, ◌^◌, ◌<◌, ◌≤◌, List, [], ◌∷◌, ◌++◌, length, cond, Bool, true, false, refl, sym, ap, ◌∙◌, arith, Option, Some, None, option_map, nat_eq, nat_le, ◌==◌, inr, drop}
 use Rattle.std.proofs.lemmas.Bool.Decides.{Decides-eqb}
 use Rattle.std.proofs.lemmas.Slice.Eq.{bytes_eq-Decides, starts_is}
 use Rattle.std.proofs.lemmas.Option.{option_and_then_some}
@@ -13,12 +13,11 @@ use Rattle.script.specs.declared.command.Image.{Image}
 use Rattle.script.specs.declared.command.Image.TheVariants.{Keep, Undo, Fill}
 use Rattle.script.specs.declared.command.VoteKind.{VoteKind}
 use Rattle.script.specs.declared.command.VoteKind.TheVariants.{Prepare, Commit}
-use Rattle.script.specs.declared.command.Range.{Range}
-use Rattle.script.specs.Fields.{number_of, not_zero, id_of, ticks_of, device_call_of, hex_of, payload_of, ids_of, given_ids_of, batch_of, given_batch_of, byzantine_of, byte_of, nibble, vote_kind_of, image_of, entry_of, ranges_of}
+use Rattle.script.specs.Fields.{number_of, not_zero, id_of, ticks_of, device_call_of, hex_of, payload_of, ids_of, given_ids_of, batch_of, given_batch_of, byzantine_of, byte_of, vote_kind_of, image_of, entry_of, ranges_of}
 use Rattle.script.specs.Grammar.{same_as}
 use Rattle.script.specs.Commands.{IsId, AreIds, IsImage, IsRange, AreRanges}
-use Rattle.script.specs.Printed.{hex_pairs, hex_text, ids_text, range_text, first_last_text, vote_text, image_text}
-use Rattle.script.specs.Forms.{IsNumber, IsHex, IsPayload, IsIdsText, IsRangesText, IsBehind, Stands, SpellsRange}
+use Rattle.script.specs.Printed.{hex_pairs, hex_text, ids_text, vote_text, image_text}
+use Rattle.script.specs.Forms.{IsNumber, IsIdsText, IsBehind, Stands}
 use Rattle.script.specs.Forms.Kind.{This, Node, Client, Serial, Number, Ticks, Call, Hex, Payload, Ids, Ranges, Vote, Mode, Batch, Byzantine}
 use Rattle.script.proofs.FieldFits.{picked, mapped, number_below, not_zero_fits, hex_fits, payload_fits, ids_fit, ranges_fit, image_fits}
 use Rattle.script.proofs.NumberTexts.{number_prints, number_was, not_zero_prints}

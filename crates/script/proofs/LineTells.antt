@@ -1,21 +1,21 @@
 -- Each line's reading tells of its form.
-use Rattle.std.proofs.Common.{codes, ◌≡◌, subst, get_or, ◌==◌, ℕ, ◌^◌, ◌-◌, ◌⊎◌, inl, inr, List, [], ◌∷◌, ◌++◌, cond, Bool, true, false, ◌&&◌, not, refl, sym, ap, ◌∙◌, Option, Some, None, Result, Ok, Err}
+use Rattle.std.proofs.Common.{codes, ◌≡◌, subst, get_or, ◌==◌, ℕ, ◌^◌, ◌-◌, inl, inr, List, [], ◌∷◌, ◌++◌, cond, Bool, true, false, ◌&&◌, not, refl, sym, ap, ◌∙◌, None, Result, Ok, Err}
 use Rattle.std.proofs.lemmas.Bool.{false≢true}
 use Rattle.std.proofs.lemmas.Slice.Eq.{bytes_eq-Decides}
 use Rattle.std.specs.Str.{bytes_eq}
 use Rattle.script.specs.declared.command.Command.{Command}
 use Rattle.script.specs.declared.command.Command.TheVariants.{Genesis, Submit, Raw, Tick, Deliver, Flush, Show, Propose, Vote as GiveVote, Lie, Seal, Stop as StopNode, StopAt, Start}
 use Rattle.script.specs.declared.command.Stop.{Stop}
-use Rattle.script.specs.declared.command.Stop.TheVariants.{Malformed, NotBuilt}
+use Rattle.script.specs.declared.command.Stop.TheVariants.{Malformed}
 use Rattle.script.specs.Words.{Word}
 use Rattle.script.specs.Fields.{number_of, id_of, ticks_of, device_call_of, hex_of, payload_of, ids_of, given_ids_of, given_batch_of, byzantine_of, vote_kind_of, image_of, entry_of, ranges_of}
-use Rattle.script.specs.Reading.{◌>>=◌, field, field_or, optional, no_more}
-use Rattle.script.specs.Grammar.{same_as, options_behind, options_of, genesis_line, submit_line, raw_line, tick_line, deliver_line, flush_line, show_line, propose_line, vote_line, lie_line, seal_line, byzantine_line_of, stop_line, stop_at_line, start_line, stopping_line_of, line_of}
-use Rattle.script.specs.Forms.{Kind, Stands, Field, AreInFields, Form, forms, stopping_forms, byzantine_forms, genesis_form, submit_form, raw_form, tick_form, deliver_form, flush_form, show_form, stop_form, stop_at_form, start_form, propose_form, vote_form, lie_form, seal_form, IsOfOne, GoesOn}
+use Rattle.script.specs.Reading.{◌>>=◌, optional, no_more}
+use Rattle.script.specs.Grammar.{same_as, options_behind, genesis_line, submit_line, raw_line, tick_line, deliver_line, flush_line, show_line, propose_line, vote_line, lie_line, seal_line, byzantine_line_of, stop_line, stop_at_line, start_line, stopping_line_of, line_of}
+use Rattle.script.specs.Forms.{AreInFields, Form, forms, stopping_forms, byzantine_forms, genesis_form, submit_form, raw_form, tick_form, deliver_form, flush_form, show_form, stop_form, stop_at_form, start_form, propose_form, vote_form, lie_form, seal_form, IsOfOne}
 use Rattle.script.specs.Forms.Kind.{This, Node, Client, Serial, Number, Ticks, Call, Hex, Payload, Ids, Ranges, Vote, Mode, Batch, Byzantine}
 use Rattle.script.specs.Forms.Field.{Needed, Optional}
-use Rattle.script.proofs.KindTexts.{Agrees, this_agrees, node_agrees, client_agrees, serial_agrees, entry_agrees, ticks_agree, call_agrees, hex_agrees, payload_agrees, ids_agree, given_ids_agree, ranges_agree, vote_agrees, mode_agrees, given_batch_agrees, byzantine_agrees}
-use Rattle.script.proofs.FirstWrong.{Explains, Tells, AreSame, IsApart, apart_from_end, explain_end, explain_needed, explain_optional, explain_last, tells_same, tells_cons, tells_at}
+use Rattle.script.proofs.KindTexts.{this_agrees, node_agrees, client_agrees, serial_agrees, entry_agrees, ticks_agree, call_agrees, hex_agrees, payload_agrees, ids_agree, given_ids_agree, ranges_agree, vote_agrees, mode_agrees, given_batch_agrees, byzantine_agrees}
+use Rattle.script.proofs.FirstWrong.{Explains, Tells, IsApart, apart_from_end, explain_end, explain_needed, explain_optional, explain_last, tells_same, tells_cons, tells_at}
 
 -- options that begin otherwise
 begin_apart : (rest more : List ℕ) → codes "batch=" ++ rest ≡ codes "byz=" ++ more → ⊥

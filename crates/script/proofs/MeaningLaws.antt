@@ -8,9 +8,9 @@ use Rattle.script.specs.declared.command.Stop.TheVariants.{Malformed, NotBuilt}
 use Rattle.script.specs.declared.command.Meaning.{Meaning}
 use Rattle.script.specs.declared.command.Meaning.TheVariants.{Nothing, Means, Wrong}
 use Rattle.script.specs.Words.{Word, words}
-use Rattle.script.specs.Later.{is_later, is_later_line}
-use Rattle.script.specs.Grammar.{line_of, command_of, judged, meaning}
-use Rattle.script.specs.Forms.{Form, forms, IsOfOne, IsLine, texts, GoesOn, IsFirstWrong, HasWords, IsBuilt, IsGrammatical, IsWrong}
+use Rattle.script.specs.Later.{is_later_line}
+use Rattle.script.specs.Grammar.{command_of, judged, meaning}
+use Rattle.script.specs.Forms.{Form, forms, IsOfOne, IsLine, texts, IsFirstWrong, HasWords, IsBuilt, IsGrammatical, IsWrong}
 use Rattle.script.proofs.FirstWrong.{Tells, first_wrong, wrong_is_none, first_is}
 use Rattle.script.proofs.LineTells.{line_told}
 

@@ -1,5 +1,5 @@
 -- A decimal number that is printed is read, and what is read as one was printed.
-use Rattle.std.proofs.Common.{◌≡◌, ℕ, zero, suc, ◌+◌, ◌-◌, ◌*◌, ◌^◌, ◌<◌, ◌≤◌, List, [], ◌∷◌, ◌++◌, length, get_or, cond, Bool, true, false, refl, sym, ap, ◌∙◌, arith, rules, Option, Some, None, ◌&&◌, nat_le, ◌==◌}
+use Rattle.std.proofs.Common.{◌≡◌, ℕ, zero, suc, ◌+◌, ◌-◌, ◌*◌, ◌^◌, ◌<◌, ◌≤◌, List, [], ◌∷◌, ◌++◌, length, get_or, Bool, true, false, refl, sym, ap, ◌∙◌, arith, rules, Option, Some, None, ◌&&◌, nat_le, ◌==◌}
 use Rattle.std.proofs.lemmas.Bool.{ne_eqb, eq-eqb}
 use Rattle.std.proofs.lemmas.List.Elements.{All-from_recursion}
 use Rattle.std.proofs.lemmas.List.Splits.{slice_split_at, slice_split_none}
@@ -9,7 +9,7 @@ use Rattle.std.proofs.lemmas.Str.Parse.{IsNumeralModel, numerals_by_fold}
 use Rattle.std.proofs.lemmas.Fmt.{digits_decimal, digits_value-decimal, decimal-digits_value, decimal_nonempty, first_decimal, decimal_digit}
 use Rattle.std.specs.Fmt.{decimal}
 use Rattle.script.specs.Fields.{digits_from, is_digit, number_of, not_zero}
-use Rattle.script.proofs.FieldFits.{picked, passed, both, number_below, not_zero_fits}
+use Rattle.script.proofs.FieldFits.{picked, passed, both, number_below}
 
 abbrev are_digits : List ℕ → Bool
 are_digits [] = true

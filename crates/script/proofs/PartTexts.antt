@@ -1,13 +1,13 @@
 -- Ids and ranges that are printed are read, and what is read as such was printed.
-use Rattle.std.proofs.Common.{codes, ◌≡◌, ℕ, ◌+◌, ◌-◌, ◌*◌, ◌^◌, ◌<◌, ◌≤◌, ◌⊎◌, inl, inr, List, [], ◌∷◌, ◌++◌, length, map, cond, Bool, true, false, refl, sym, ap, ◌∙◌, arith, Option, Some, None, ◌&&◌, option_map, option_and_then, nat_lt, nat_le, ◌==◌}
-use Rattle.std.proofs.lemmas.Bool.{leb-true, ltb-true, eq-eqb}
+use Rattle.std.proofs.Common.{◌≡◌, ℕ, ◌+◌, ◌-◌, ◌^◌, ◌<◌, ◌≤◌, inl, inr, List, [], ◌∷◌, ◌++◌, length, map, cond, true, false, refl, sym, ap, ◌∙◌, arith, Some, None, ◌&&◌, option_map, option_and_then, nat_lt, nat_le, ◌==◌}
+use Rattle.std.proofs.lemmas.Bool.{eq-eqb}
 use Rattle.std.proofs.lemmas.Bool.Decides.{nat_tests}
 use Rattle.std.proofs.lemmas.Option.{option_and_then_some}
 use Rattle.std.proofs.lemmas.List.Elements.{All-from_recursion, recursion_from_All}
 use Rattle.std.proofs.lemmas.List.Splits.{slice_split_at, slice_split_none, join_with_byte-slice_split}
 use Rattle.std.specs.List.{AllByRecursion, AllZip, join_with_byte, slice_split}
 use Rattle.std.specs.Fmt.{decimal}
-use Rattle.ord_types.specs.Grammar.{Ascend, HasIdsSpelling}
+use Rattle.ord_types.specs.Grammar.{Ascend}
 use Rattle.script.specs.declared.command.Range.{Range}
 use Rattle.script.specs.Fields.{is_digit, number_of, ids_from, ids_of, entry_of, in_order, range_of_parts, range_of, ranges_from, ranges_of}
 use Rattle.script.specs.Commands.{IsId, AreIds, IsRange, AreRanges}

@@ -1,8 +1,8 @@
 -- The printed line of a command means it.
-use Rattle.std.proofs.Common.{codes, ◌≡◌, ℕ, ◌+◌, ◌-◌, ◌*◌, ◌^◌, ◌<◌, ◌≤◌, inl, inr, List, [], ◌∷◌, ◌++◌, length, map, cond, Bool, true, false, ◌&&◌, ◌||◌, not, refl, sym, ap, ◌∙◌, arith, Option, Some, None, Result, Ok, Err, option_map, nat_eq, ◌==◌, IfSome}
+use Rattle.std.proofs.Common.{codes, ◌≡◌, ℕ, ◌+◌, ◌-◌, ◌^◌, ◌<◌, ◌≤◌, inl, inr, List, [], ◌∷◌, ◌++◌, length, map, cond, Bool, true, false, ◌&&◌, ◌||◌, not, refl, ap, ◌∙◌, arith, Option, Some, None, Ok, nat_eq, ◌==◌, IfSome}
 use Rattle.std.proofs.lemmas.Bool.{false≢true}
 use Rattle.std.proofs.lemmas.Bool.Decides.{nat_tests, Decides-eqb}
-use Rattle.std.specs.List.{AllByRecursion, AllZip, join_with_byte, slice_split, list_any, list_all, starts_with}
+use Rattle.std.specs.List.{AllByRecursion, AllZip, join_with_byte, slice_split, list_all, starts_with}
 use Rattle.std.specs.Str.{bytes_eq}
 use Rattle.std.specs.Fmt.{decimal}
 use Rattle.script.specs.declared.command.Command.{Command}
@@ -12,16 +12,15 @@ use Rattle.script.specs.declared.command.Image.TheVariants.{Keep, Undo, Fill}
 use Rattle.script.specs.declared.command.VoteKind.{VoteKind}
 use Rattle.script.specs.declared.command.VoteKind.TheVariants.{Prepare, Commit}
 use Rattle.script.specs.declared.command.Range.{Range}
-use Rattle.script.specs.declared.command.Stop.{Stop as Wrongness}
-use Rattle.script.specs.declared.command.Meaning.TheVariants.{Nothing, Means}
-use Rattle.script.specs.Words.{Word, words, placed}
-use Rattle.script.specs.Fields.{number_of, not_zero, id_of, ticks_of, device_call_of, entry_of, ids_of, batch_of, byzantine_of}
+use Rattle.script.specs.declared.command.Meaning.TheVariants.{Means}
+use Rattle.script.specs.Words.{placed}
+use Rattle.script.specs.Fields.{number_of, id_of, ticks_of, device_call_of, entry_of, batch_of, byzantine_of}
 use Rattle.script.specs.Later.{is_later_word, is_later_option, is_later_genesis}
 use Rattle.script.specs.Grammar.{genesis_line, submit_line, raw_line, tick_line, deliver_line, flush_line, show_line, propose_line, vote_line, lie_line, seal_line, byzantine_line_of, stop_line, stop_at_line, start_line, stopping_line_of, line_of, command_of, judged, meaning}
-use Rattle.script.specs.Commands.{IsId, AreIds, AreByzantine, AreBytes, IsRange, AreRanges, IsImage, IsWellFormed, IsGenesis, IsSubmit, IsRaw, IsTick, IsShow, IsPropose, IsVote, IsLie, IsSeal, IsStop, IsStopAt, IsStart}
-use Rattle.script.specs.Printed.{hex_pairs, hex_text, ids_text, range_text, first_last_text, ranges_text, vote_text, image_text, byzantine_words, printed_words, printed}
+use Rattle.script.specs.Commands.{IsId, AreIds, AreRanges, IsWellFormed, IsGenesis, IsSubmit, IsRaw, IsTick, IsShow, IsPropose, IsVote, IsLie, IsSeal, IsStop, IsStopAt, IsStart}
+use Rattle.script.specs.Printed.{hex_pairs, ids_text, range_text, first_last_text, vote_text, image_text, printed_words, printed}
 use Rattle.script.specs.Forms.{SpellsRange}
-use Rattle.script.proofs.NumberTexts.{number_prints, not_zero_prints, IsPlain, decimal_plain, append_plain, join_plain, split_joined}
+use Rattle.script.proofs.NumberTexts.{number_prints, not_zero_prints, IsPlain, decimal_plain, append_plain, split_joined}
 use Rattle.script.proofs.HexTexts.{hex_prints, payload_prints, pairs_plain, hex_plain}
 use Rattle.script.proofs.PartTexts.{ids_print, ids_plain, ids_plain_of, ranges_print, ranges_plain}
 use Rattle.script.proofs.KindTexts.{vote_prints, image_prints}
@@ -42,10 +41,13 @@ means [] ws command spoken cut e = absurd spoken
 means (b ∷ line) ws command spoken cut e =
     rw spoken (ap (λ (parts : List (List ℕ)). judged (command_of (length (b ∷ line) + 1) (placed 1 parts))) cut ∙ ap judged e)
 
+spelled_means_if : (ws : List (List ℕ)) (command : Command) → IsSpoken (join_with_byte 32 ws) → 0 < length ws → AllByRecursion (IsPlain 32) ws
+    → ((past : ℕ) → command_of past (placed 1 ws) ≡ Ok command) → meaning (join_with_byte 32 ws) ≡ Means command
+spelled_means_if ws command spoken some plain e = means (join_with_byte 32 ws) ws command spoken (split_all ws some plain) (e (length (join_with_byte 32 ws) + 1))
+
 printed_means_if : (command : Command) → IsSpoken (printed command) → 0 < length (printed_words command) → AllByRecursion (IsPlain 32) (printed_words command)
     → ((past : ℕ) → command_of past (placed 1 (printed_words command)) ≡ Ok command) → meaning (printed command) ≡ Means command
-printed_means_if command spoken some plain e =
-    means (printed command) (printed_words command) command spoken (split_all (printed_words command) some plain) (e (length (printed command) + 1))
+printed_means_if command spoken some plain e = spelled_means_if (printed_words command) command spoken some plain e
 
 -- a text without blanks, by computing
 plain : (text : List ℕ) → list_all (λ b. not (b == 32)) text ≡ true → IsPlain 32 text
@@ -207,15 +209,28 @@ range_texts (range ∷ more) = (one (range.first == range.last) refl, range_text
     one true e = inr ((Decides-eqb range.first range.last).0 e, refl)
     one false e = inl refl
 
-deliver_means : (ranges : List Range) → AreRanges ranges → meaning (printed (Deliver ranges)) ≡ Means (Deliver ranges)
+pub ranges_mean : (ranges : List Range) (parts : List (List ℕ)) → AreRanges ranges → AllZip SpellsRange ranges parts
+    → meaning (codes "deliver " ++ join_with_byte 44 parts) ≡ Means (Deliver ranges)
 unfolding is_later_word line_of deliver_line
-deliver_means ranges are =
-    printed_means_if (Deliver ranges) refl (omega arith)
-    (plain (codes "deliver") refl, (ranges_plain ranges (map range_text ranges) are (range_texts ranges), tt))
+ranges_mean ranges parts are each =
+    spelled_means_if (codes "deliver" ∷ join_with_byte 44 parts ∷ []) (Deliver ranges) refl (omega arith)
+    (plain (codes "deliver") refl, (ranges_plain ranges parts are each, tt))
     reads
   where
-    reads : (past : ℕ) → command_of past (placed 1 (printed_words (Deliver ranges))) ≡ Ok (Deliver ranges)
-    reads past = rw (ranges_print ranges (map range_text ranges) are (range_texts ranges)) refl
+    reads : (past : ℕ) → command_of past (placed 1 (codes "deliver" ∷ join_with_byte 44 parts ∷ [])) ≡ Ok (Deliver ranges)
+    reads past = rw (ranges_print ranges parts are each) refl
+
+deliver_means : (ranges : List Range) → AreRanges ranges → meaning (printed (Deliver ranges)) ≡ Means (Deliver ranges)
+deliver_means ranges are = ranges_mean ranges (map range_text ranges) are (range_texts ranges)
+
+-- without a count
+pub once_means : (node : ℕ) → IsId node → meaning (codes "tick " ++ decimal node) ≡ Means (Tick node 1)
+unfolding is_later_word line_of tick_line
+once_means node is =
+    spelled_means_if (codes "tick" ∷ decimal node ∷ []) (Tick node 1) refl (omega arith) (plain (codes "tick") refl, (id_plain node is, tt)) reads
+  where
+    reads : (past : ℕ) → command_of past (placed 1 (codes "tick" ∷ decimal node ∷ [])) ≡ Ok (Tick node 1)
+    reads past = rw (id_prints node is) refl
 
 flush_means : (only : Option (List ℕ)) → IfSome only AreIds → meaning (printed (Flush only)) ≡ Means (Flush only)
 unfolding is_later_word line_of flush_line

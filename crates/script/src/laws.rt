@@ -1,11 +1,14 @@
-ghost use Rattle.std.specs.Prelude.{◌≡◌, ◌↔◌, ℕ, List};
+ghost use Rattle.std.specs.Prelude.{◌≡◌, ◌↔◌, ◌++◌, ℕ, List, codes, decimal};
+ghost use Rattle.std.specs.List.{AllZip, join_with_byte};
 ghost use Rattle.script.specs.declared.command.Command.{Command};
+ghost use Rattle.script.specs.declared.command.Command.TheVariants.{Tick, Deliver};
+ghost use Rattle.script.specs.declared.command.Range.{Range};
 ghost use Rattle.script.specs.declared.command.Meaning.TheVariants.{Means, Wrong};
 ghost use Rattle.script.specs.declared.command.Stop.TheVariants.{Malformed};
-ghost use Rattle.script.specs.Commands.{IsWellFormed};
+ghost use Rattle.script.specs.Commands.{IsWellFormed, IsId, AreRanges};
 ghost use Rattle.script.specs.Grammar.{meaning};
 ghost use Rattle.script.specs.Printed.{printed};
-ghost use Rattle.script.specs.Forms.{IsGrammatical, IsWrong};
+ghost use Rattle.script.specs.Forms.{IsGrammatical, IsWrong, SpellsRange};
 
 /// What a line means is a well-formed command: its ids are ids, its bytes are bytes, its numbers
 /// within their bounds, its ranges in order. A law about the grammar; it does nothing.
@@ -14,9 +17,13 @@ pub fn commands_are_well_formed()
 {}
 
 /// The printed line of a command that a line may mean does mean it: what is printed by the format
-/// of its fields is read back. A law about the grammar; it does nothing.
+/// of its fields is read back. Two commands have other lines too, and these mean them as well: a
+/// tick without its count is one tick, and a range of one number may be written with it twice. A
+/// law about the grammar; it does nothing.
 pub fn printed_lines_mean_their_commands()
-    ensures { (command : Command) → IsWellFormed command → meaning (printed command) ≡ Means command }
+    ensures printed { (command : Command) → IsWellFormed command → meaning (printed command) ≡ Means command }
+    ensures once { (node : ℕ) → IsId node → meaning (codes "tick " ++ decimal node) ≡ Means (Tick node 1) }
+    ensures ranges { (ranges : List Range) (parts : List (List ℕ)) → AreRanges ranges → AllZip SpellsRange ranges parts → meaning (codes "deliver " ++ join_with_byte 44 parts) ≡ Means (Deliver ranges) }
 {}
 
 /// A line means a command exactly where it is one of the grammar: neither empty nor a comment, of
