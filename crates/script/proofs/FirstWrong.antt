@@ -104,8 +104,10 @@ explain_needed kind fits agrees fields f past ws each = record { goes_on = alive
   where
     rest : GoesOn (AreInFields fields) []
     rest = (each (agrees.reads agrees.sample agrees.sample_fits).0 []).goes_on
+
     alive : GoesOn (AreInFields (Needed kind ∷ fields)) []
     alive = (agrees.sample ∷ rest.0, (agrees.sample_fits, rest.1))
+
     tells : (ws : List Word) → Tells (AreInFields (Needed kind ∷ fields)) past ws (field fits past ws >>= f)
     tells [] = record { here = refl; goes_on = alive; lacks = λ h. h }
     tells (word ∷ more) = needed_word kind fits agrees fields alive f past word more (λ x. (each x more).tells) (fits word.text) refl

@@ -15,17 +15,17 @@ nibble_prints n h = go (nat_lt n 10) refl
   where
     go : (low : Bool) → nat_lt n 10 ≡ low → nibble (cond low (48 + n) (87 + n)) ≡ Some n
     go true e =
-      let from : nat_le 48 (48 + n) ≡ true = grind (arith, nat_tests) in
-      let to : nat_le (48 + n) 57 ≡ true = grind (arith, nat_tests) in
-      let is : 48 + n - 48 ≡ n = omega arith in
-      rw (from, to, is) refl
+        let from : nat_le 48 (48 + n) ≡ true = grind (arith, nat_tests) in
+        let to : nat_le (48 + n) 57 ≡ true = grind (arith, nat_tests) in
+        let is : 48 + n - 48 ≡ n = omega arith in
+        rw (from, to, is) refl
     go false e =
-      let digit : nat_le (87 + n) 57 ≡ false = grind (arith, nat_tests) in
-      let low : nat_le 48 (87 + n) ≡ true = grind (arith, nat_tests) in
-      let from : nat_le 97 (87 + n) ≡ true = grind (arith, nat_tests) in
-      let to : nat_le (87 + n) 102 ≡ true = grind (arith, nat_tests) in
-      let is : 87 + n - 87 ≡ n = omega arith in
-      rw (low, digit, from, to, is) refl
+        let digit : nat_le (87 + n) 57 ≡ false = grind (arith, nat_tests) in
+        let low : nat_le 48 (87 + n) ≡ true = grind (arith, nat_tests) in
+        let from : nat_le 97 (87 + n) ≡ true = grind (arith, nat_tests) in
+        let to : nat_le (87 + n) 102 ≡ true = grind (arith, nat_tests) in
+        let is : 87 + n - 87 ≡ n = omega arith in
+        rw (low, digit, from, to, is) refl
 
 pub pair_prints : (b : ℕ) → b < 256 → pair_of (nibble (hex_digit (b / 16))) (nibble (hex_digit (b % 16))) ≡ Some b
 pair_prints b h =
@@ -79,19 +79,19 @@ nibble_was : (b n : ℕ) → nibble b ≡ Some n → WasDigit b n
 nibble_was b n e = go (is_digit b) (nat_le 97 b && nat_le b 102) (both (nat_le 48 b) (nat_le b 57)) (both (nat_le 97 b) (nat_le b 102)) e
   where
     go : (digit letter : Bool) → (digit ≡ true → (nat_le 48 b ≡ true) × (nat_le b 57 ≡ true)) → (letter ≡ true → (nat_le 97 b ≡ true) × (nat_le b 102 ≡ true))
-      → cond digit (Some (b - 48)) (cond letter (Some (b - 87)) None) ≡ Some n → WasDigit b n
+        → cond digit (Some (b - 48)) (cond letter (Some (b - 87)) None) ≡ Some n → WasDigit b n
     go true letter low high e =
-      let same : b - 48 ≡ n = cc in
-      let from = leb-true 48 b (low refl).0 in
-      let to = leb-true b 57 (low refl).1 in
-      let small : nat_lt n 10 ≡ true = grind (arith, nat_tests) in
-      record { below = omega arith; spelled = rw small (omega arith) }
+        let same : b - 48 ≡ n = cc in
+        let from = leb-true 48 b (low refl).0 in
+        let to = leb-true b 57 (low refl).1 in
+        let small : nat_lt n 10 ≡ true = grind (arith, nat_tests) in
+        record { below = omega arith; spelled = rw small (omega arith) }
     go false true low high e =
-      let same : b - 87 ≡ n = cc in
-      let from = leb-true 97 b (high refl).0 in
-      let to = leb-true b 102 (high refl).1 in
-      let large : nat_lt n 10 ≡ false = grind (arith, nat_tests) in
-      record { below = omega arith; spelled = rw large (omega arith) }
+        let same : b - 87 ≡ n = cc in
+        let from = leb-true 97 b (high refl).0 in
+        let to = leb-true b 102 (high refl).1 in
+        let large : nat_lt n 10 ≡ false = grind (arith, nat_tests) in
+        record { below = omega arith; spelled = rw large (omega arith) }
     go false false low high e = absurd (cc)
 
 -- two hex digits that were read
@@ -106,12 +106,12 @@ pair_was a b byte e = go (nibble a) (nibble b) (nibble_was a) (nibble_was b) e
     go None low h l e = absurd (cc)
     go (Some high) None h l e = absurd (cc)
     go (Some high) (Some low) h l e =
-      let same : 16 * high + low ≡ byte = cc in
-      let first = h high refl in
-      let second = l low refl in
-      let upper : byte / 16 ≡ high = omega (arith, first.below, second.below) in
-      let lower : byte % 16 ≡ low = omega (arith, first.below, second.below) in
-      record { high = rw upper first.spelled; low = rw lower second.spelled }
+        let same : 16 * high + low ≡ byte = cc in
+        let first = h high refl in
+        let second = l low refl in
+        let upper : byte / 16 ≡ high = omega (arith, first.below, second.below) in
+        let lower : byte % 16 ≡ low = omega (arith, first.below, second.below) in
+        record { high = rw upper first.spelled; low = rw lower second.spelled }
 
 pairs_were : (text bytes : List ℕ) → pairs_of text ≡ Some bytes → text ≡ hex_pairs bytes
 pairs_were [] bytes e = let same : [] ≡ bytes = cc in rw (← same) refl
@@ -119,14 +119,14 @@ pairs_were (a ∷ []) bytes e = absurd (cc)
 pairs_were (a ∷ b ∷ more) bytes e = go (pair_of (nibble a) (nibble b)) (pairs_of more) (pair_was a b) (pairs_were more) e
   where
     go : (pair : Option ℕ) (rest : Option (List ℕ)) → ((byte : ℕ) → pair ≡ Some byte → WerePair a b byte) → ((left : List ℕ) → rest ≡ Some left → more ≡ hex_pairs left)
-      → onto pair rest ≡ Some bytes → a ∷ b ∷ more ≡ hex_pairs bytes
+        → onto pair rest ≡ Some bytes → a ∷ b ∷ more ≡ hex_pairs bytes
     go None rest p r e = absurd (cc)
     go (Some byte) None p r e = absurd (cc)
     go (Some byte) (Some left) p r e =
-      let same : byte ∷ left ≡ bytes = cc in
-      let pair = p byte refl in
-      let others = r left refl in
-      rw (← same, ← pair.high, ← pair.low, ← others) refl
+        let same : byte ∷ left ≡ bytes = cc in
+        let pair = p byte refl in
+        let others = r left refl in
+        rw (← same, ← pair.high, ← pair.low, ← others) refl
 
 -- pairs of one byte or more are no dash
 pairs_text : (text bytes : List ℕ) → (length text == 0) ≡ false → text ≡ hex_pairs bytes → text ≡ hex_text bytes

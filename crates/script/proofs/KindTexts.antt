@@ -55,8 +55,11 @@ positive_agrees most some h = record {
   was = λ text n e. (
       let found = not_zero_fits (number_of most text) n e in
       record { value = n; not_below = found.1; not_above = number_below most text n found.0; spelled = number_was most text n h found.0 });
-  reads = λ text is. (is.value, not_zero_prints (number_of most text) is.value
-      (ap (λ (t : List ℕ). number_of most t) is.spelled ∙ number_prints most is.value is.not_above (let below = is.not_above in omega arith)) is.not_below);
+  reads = λ text is. (
+    is.value,
+    not_zero_prints (number_of most text) is.value
+        (ap (λ (t : List ℕ). number_of most t) is.spelled ∙ number_prints most is.value is.not_above (let below = is.not_above in omega arith)) is.not_below,
+  );
   sample = decimal 1;
   sample_fits = record { value = 1; not_below = omega arith; not_above = some; spelled = refl };
 }
@@ -184,12 +187,12 @@ image_was text image e =
     (bytes_eq-Decides text (codes "keep")).0 (bytes_eq-Decides text (codes "drop")).0 (starts_with_is text (codes "fill=")) e
   where
     go : (keep undo fill : Bool) → (keep ≡ true → text ≡ codes "keep") → (undo ≡ true → text ≡ codes "drop") → (fill ≡ true → text ≡ codes "fill=" ++ drop 5 text)
-      → cond keep (Some Keep) (cond undo (Some Undo) (cond fill (option_map (λ b. Fill b) (byte_of (drop 5 text))) None)) ≡ Some image → text ≡ image_text image
+        → cond keep (Some Keep) (cond undo (Some Undo) (cond fill (option_map (λ b. Fill b) (byte_of (drop 5 text))) None)) ≡ Some image → text ≡ image_text image
     go true undo fill k u f e = let same : Keep ≡ image = cc in rw (← same) (k refl)
     go false true fill k u f e = let same : Undo ≡ image = cc in rw (← same) (u refl)
     go false false true k u f e =
-      let found = mapped (λ b. Fill b) (byte_of (drop 5 text)) image e in
-      f refl ∙ ap (λ (rest : List ℕ). codes "fill=" ++ rest) (byte_was (drop 5 text) found.0 found.1) ∙ ap image_text found.2
+        let found = mapped (λ b. Fill b) (byte_of (drop 5 text)) image e in
+        f refl ∙ ap (λ (rest : List ℕ). codes "fill=" ++ rest) (byte_was (drop 5 text) found.0 found.1) ∙ ap image_text found.2
     go false false false k u f e = absurd (cc)
 
 pub mode_agrees : Agrees (Stands Mode) image_of

@@ -146,7 +146,7 @@ none_named name [] e left h = h
 none_named name (form ∷ more) e left h = go (bytes_eq name form.name) (bytes_eq-Decides name form.name).1 (none_named name more) e h
   where
     go : (same : Bool) → (name ≡ form.name → same ≡ true) → (is_none_named name more ≡ true → (left : List (List ℕ)) → IsOfOne more (name ∷ left) → ⊥)
-      → (not same && is_none_named name more) ≡ true → IsOfOne (form ∷ more) (name ∷ left) → ⊥
+        → (not same && is_none_named name more) ≡ true → IsOfOne (form ∷ more) (name ∷ left) → ⊥
     go true is rest e h = absurd (false≢true e)
     go false is rest e (inl first) = absurd (false≢true (is first.0))
     go false is rest e (inr other) = rest e left other

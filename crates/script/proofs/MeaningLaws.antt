@@ -64,6 +64,7 @@ means_line line command e = record { built = built; is_line = go (command_of (le
   where
     built : IsBuilt line
     built = not_later line (Means command) e (λ is. absurd (cc)) (λ is. absurd (cc))
+
     go : (r : Result Command Stop) → judged r ≡ Means command → Tells IsLine (length line + 1) (words 1 line) r → IsLine (texts (words 1 line))
     go (Ok x) is h = h
     go (Err stop) is h = absurd (cc)
@@ -81,12 +82,13 @@ malformed_wrong line place e = record { built = built; first = go (command_of (l
   where
     built : IsBuilt line
     built = not_later line (Wrong (Malformed place)) e (λ is. absurd (cc)) (λ is. absurd (cc))
+
     go : (r : Result Command Stop) → judged r ≡ Wrong (Malformed place) → Tells IsLine (length line + 1) (words 1 line) r → IsFirstWrong IsLine (length line + 1) (words 1 line) place
     go (Ok x) is h = absurd (cc)
     go (Err NotBuilt) is h = absurd h
     go (Err (Malformed at)) is h =
-      let same : at ≡ place = cc in
-      subst (λ (p : ℕ). IsFirstWrong IsLine (length line + 1) (words 1 line) p) same (first_wrong IsLine (length line + 1) (words 1 line) at h)
+        let same : at ≡ place = cc in
+        subst (λ (p : ℕ). IsFirstWrong IsLine (length line + 1) (words 1 line) p) same (first_wrong IsLine (length line + 1) (words 1 line) at h)
 
 wrong_malformed : (line : List ℕ) (place : ℕ) → IsWrong line place → meaning line ≡ Wrong (Malformed place)
 wrong_malformed line place is = go (command_of (length line + 1) (words 1 line)) (is_judged line is.built.has_words) (told line is.built)

@@ -76,9 +76,9 @@ number_was most text n h e = go text e (number_below most text n e)
     go [] e below = absurd (cc)
     go (b ∷ []) e below = was_decimal (b ∷ []) n (digits_were most 0 n (b ∷ []) e) (omega arith) (λ _. refl) (omega arith)
     go (b ∷ c ∷ more) e below =
-      let test = passed (b == 48) (digits_from most 0 (b ∷ c ∷ more)) n e in
-      was_decimal (b ∷ c ∷ more) n (digits_were most 0 n (b ∷ c ∷ more) test.1) (omega arith)
-      (λ is. let no : (b == 48) ≡ true = grind (arith, nat_tests) in absurd (cc (no, test.0))) (omega arith)
+        let test = passed (b == 48) (digits_from most 0 (b ∷ c ∷ more)) n e in
+        was_decimal (b ∷ c ∷ more) n (digits_were most 0 n (b ∷ c ∷ more) test.1) (omega arith)
+        (λ is. let no : (b == 48) ≡ true = grind (arith, nat_tests) in absurd (cc (no, test.0))) (omega arith)
 
 pub not_zero_prints : (found : Option ℕ) (n : ℕ) → found ≡ Some n → 1 ≤ n → not_zero found ≡ Some n
 not_zero_prints None n e h = absurd (cc)

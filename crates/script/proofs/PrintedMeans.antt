@@ -251,8 +251,12 @@ no_start c front (b ∷ more) h =
 ids_are_no_option : (ids : List ℕ) → AreIds ids → is_later_option (ids_text ids) ≡ false
 unfolding is_later_option
 ids_are_no_option ids are =
-    rw (no_start 114 (codes "otation=") (ids_text ids) (ids_plain_of 114 refl refl ids are), no_start 119 (codes "ait=") (ids_text ids) (ids_plain_of 119 refl refl ids are),
-    no_start 112 (codes "ool=") (ids_text ids) (ids_plain_of 112 refl refl ids are), no_start 101 (codes "xtra=") (ids_text ids) (ids_plain_of 101 refl refl ids are)) refl
+    rw (
+      no_start 114 (codes "otation=") (ids_text ids) (ids_plain_of 114 refl refl ids are),
+      no_start 119 (codes "ait=") (ids_text ids) (ids_plain_of 119 refl refl ids are),
+      no_start 112 (codes "ool=") (ids_text ids) (ids_plain_of 112 refl refl ids are),
+      no_start 101 (codes "xtra=") (ids_text ids) (ids_plain_of 101 refl refl ids are),
+    ) refl
 
 with_true : (b other : Bool) → (b || (true || other)) ≡ true
 with_true true other = refl
@@ -268,16 +272,27 @@ genesis_means members [] is =
     reads : (past : ℕ) → command_of past (placed 1 (printed_words (Genesis members []))) ≡ Ok (Genesis members [])
     reads past = rw (ids_are_no_option members is.member_ids, with_true (bytes_eq (ids_text members) (codes "batch=1")) false, ids_print members is.member_ids) refl
 genesis_means members (id ∷ more) is =
-    printed_means_if (Genesis members (id ∷ more)) refl (omega arith)
-    (plain (codes "genesis") refl, (plain (codes "bft") refl, (ids_plain members is.member_ids, (plain (codes "batch=1") refl,
-    (append_plain 32 (codes "byz=") (ids_text (id ∷ more)) (plain (codes "byz=") refl) (ids_plain (id ∷ more) are), tt)))))
+    printed_means_if (Genesis members (id ∷ more)) refl (omega arith) (
+      plain (codes "genesis") refl,
+      (
+        plain (codes "bft") refl,
+        (
+          ids_plain members is.member_ids,
+          (
+            plain (codes "batch=1") refl,
+            (append_plain 32 (codes "byz=") (ids_text (id ∷ more)) (plain (codes "byz=") refl) (ids_plain (id ∷ more) are), tt),
+          ),
+        ),
+      ),
+    )
     reads
   where
     are : AreIds (id ∷ more)
     are = record { some = omega arith; few = is.byzantine_ids.few; ascending = is.byzantine_ids.ascending; each = is.byzantine_ids.each }
+
     reads : (past : ℕ) → command_of past (placed 1 (printed_words (Genesis members (id ∷ more)))) ≡ Ok (Genesis members (id ∷ more))
     reads past =
-      rw (ids_are_no_option members is.member_ids, with_true (bytes_eq (ids_text members) (codes "batch=1")) _, ids_print members is.member_ids, ids_print (id ∷ more) are) refl
+        rw (ids_are_no_option members is.member_ids, with_true (bytes_eq (ids_text members) (codes "batch=1")) _, ids_print members is.member_ids, ids_print (id ∷ more) are) refl
 
 -- the printed line of each command that a line may mean
 pub printed_means : (command : Command) → IsWellFormed command → meaning (printed command) ≡ Means command

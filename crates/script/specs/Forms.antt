@@ -1,4 +1,5 @@
--- The lines of the grammar: for each its first word, and the fields behind it in order, each with the words that may stand there.
+-- The lines of the grammar: for each its first word, and the fields behind it in order, each with the words that
+-- may stand there.
 use Rattle.std.specs.Prelude.{◌≡◌, false, ℕ, ◌+◌, ◌-◌, ◌^◌, ◌≤◌, ◌++◌, ◌⊎◌, List, [], ◌∷◌, length, codes}
 use Rattle.std.specs.List.{join_with_byte, AllZip}
 use Rattle.std.specs.Fmt.{decimal}
@@ -62,7 +63,8 @@ pub record IsIdsText (text : List ℕ) : Type 0 where
 
 -- FIRST-LAST, or one number where both are the same
 abbrev pub SpellsRange : Range → List ℕ → Type 0
-SpellsRange range text = (text ≡ first_last_text range) ⊎ ((range.first ≡ range.last) × (text ≡ decimal range.first))
+SpellsRange range text =
+    (text ≡ first_last_text range) ⊎ ((range.first ≡ range.last) × (text ≡ decimal range.first))
 
 pub record IsRangesText (text : List ℕ) : Type 0 where
   pub ranges : List Range
@@ -107,7 +109,8 @@ AreInFields [] (text ∷ more) = ⊥
 AreInFields (Needed kind ∷ fields) [] = ⊥
 AreInFields (Needed kind ∷ fields) (text ∷ more) = Stands kind text × AreInFields fields more
 AreInFields (Optional kind ∷ fields) [] = AreInFields fields []
-AreInFields (Optional kind ∷ fields) (text ∷ more) = AreInFields fields (text ∷ more) ⊎ (Stands kind text × AreInFields fields more)
+AreInFields (Optional kind ∷ fields) (text ∷ more) =
+    AreInFields fields (text ∷ more) ⊎ (Stands kind text × AreInFields fields more)
 
 -- lines with this first word and these fields behind it
 pub record Form : Type 0 where
@@ -117,8 +120,10 @@ pub record Form : Type 0 where
 abbrev pub form : List ℕ → List Field → Form
 form name fields = record { name = name; fields = fields }
 
+-- with any batch; where no word is `batch=1`, the line belongs to a later part
 abbrev pub genesis_form : Form
-genesis_form = form (codes "genesis") (Needed (This (codes "bft")) ∷ Needed Ids ∷ Optional Batch ∷ Optional Byzantine ∷ [])
+genesis_form =
+    form (codes "genesis") (Needed (This (codes "bft")) ∷ Needed Ids ∷ Optional Batch ∷ Optional Byzantine ∷ [])
 
 abbrev pub submit_form : Form
 submit_form = form (codes "submit") (Needed Node ∷ Needed Client ∷ Needed Serial ∷ Needed Hex ∷ [])
@@ -148,10 +153,13 @@ abbrev pub start_form : Form
 start_form = form (codes "start") (Needed Node ∷ [])
 
 abbrev pub propose_form : Form
-propose_form = form (codes "byz-propose") (Needed Node ∷ Needed Node ∷ Needed Number ∷ Needed Client ∷ Needed Serial ∷ Needed Payload ∷ [])
+propose_form =
+    form (codes "byz-propose")
+    (Needed Node ∷ Needed Node ∷ Needed Number ∷ Needed Client ∷ Needed Serial ∷ Needed Payload ∷ [])
 
 abbrev pub vote_form : Form
-vote_form = form (codes "byz-vote") (Needed Node ∷ Needed Node ∷ Needed Vote ∷ Needed Number ∷ Needed Number ∷ [])
+vote_form =
+    form (codes "byz-vote") (Needed Node ∷ Needed Node ∷ Needed Vote ∷ Needed Number ∷ Needed Number ∷ [])
 
 abbrev pub lie_form : Form
 lie_form = form (codes "lie") (Needed Node ∷ Needed Node ∷ Needed Hex ∷ [])
@@ -166,7 +174,8 @@ abbrev pub stopping_forms : List Form
 stopping_forms = stop_form ∷ stop_at_form ∷ start_form ∷ byzantine_forms
 
 abbrev pub forms : List Form
-forms = genesis_form ∷ submit_form ∷ raw_form ∷ tick_form ∷ deliver_form ∷ flush_form ∷ show_form ∷ stopping_forms
+forms =
+    genesis_form ∷ submit_form ∷ raw_form ∷ tick_form ∷ deliver_form ∷ flush_form ∷ show_form ∷ stopping_forms
 
 abbrev pub IsOfForm : Form → List (List ℕ) → Type 0
 IsOfForm form [] = ⊥

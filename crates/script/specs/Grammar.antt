@@ -23,7 +23,8 @@ options_behind batch byzantine = (record { batch = batch; byzantine = byzantine.
 
 -- `[batch=N] [byz=IDS]`: the options in this order, each of which may be left out
 abbrev pub options_of : List Word → Options × List Word
-options_of w = let batch = optional None given_batch_of w in options_behind batch.0 (optional [] byzantine_of batch.1)
+options_of w =
+    let batch = optional None given_batch_of w in options_behind batch.0 (optional [] byzantine_of batch.1)
 
 -- `genesis bft IDS [batch=N] [byz=IDS]`; where no word is `batch=1`, it belongs to a later part
 unfoldable pub genesis_line : ℕ → List Word → Result Command Stop

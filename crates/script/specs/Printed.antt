@@ -62,20 +62,25 @@ only_words (Some ids) = ids_text ids ∷ []
 
 -- the words of a command
 abbrev pub printed_words : Command → List (List ℕ)
-printed_words (Genesis members byzantine) = codes "genesis" ∷ codes "bft" ∷ ids_text members ∷ codes "batch=1" ∷ byzantine_words byzantine
-printed_words (Submit node client serial payload) = codes "submit" ∷ decimal node ∷ decimal client ∷ decimal serial ∷ hex_text payload ∷ []
+printed_words (Genesis members byzantine) =
+    codes "genesis" ∷ codes "bft" ∷ ids_text members ∷ codes "batch=1" ∷ byzantine_words byzantine
+printed_words (Submit node client serial payload) =
+    codes "submit" ∷ decimal node ∷ decimal client ∷ decimal serial ∷ hex_text payload ∷ []
 printed_words (Raw node bytes) = codes "raw" ∷ decimal node ∷ hex_text bytes ∷ []
 printed_words (Tick node count) = codes "tick" ∷ decimal node ∷ decimal count ∷ []
 printed_words (Deliver ranges) = codes "deliver" ∷ ranges_text ranges ∷ []
 printed_words (Flush only) = codes "flush" ∷ only_words only
 printed_words (Show node number) = codes "show" ∷ decimal node ∷ decimal number ∷ []
 printed_words (Propose from to view client serial payload) =
-    codes "byz-propose" ∷ decimal from ∷ decimal to ∷ decimal view ∷ decimal client ∷ decimal serial ∷ hex_text payload ∷ []
-printed_words (Vote from to kind view entry) = codes "byz-vote" ∷ decimal from ∷ decimal to ∷ vote_text kind ∷ decimal view ∷ decimal entry ∷ []
+    codes "byz-propose" ∷ decimal from ∷ decimal to ∷ decimal view ∷ decimal client ∷ decimal serial
+    ∷ hex_text payload ∷ []
+printed_words (Vote from to kind view entry) =
+    codes "byz-vote" ∷ decimal from ∷ decimal to ∷ vote_text kind ∷ decimal view ∷ decimal entry ∷ []
 printed_words (Lie from to bytes) = codes "lie" ∷ decimal from ∷ decimal to ∷ hex_text bytes ∷ []
 printed_words (Seal id bytes) = codes "seal" ∷ decimal id ∷ hex_text bytes ∷ []
 printed_words (Stop node image) = codes "stop" ∷ decimal node ∷ image_text image ∷ []
-printed_words (StopAt node call image) = codes "stop-at" ∷ decimal node ∷ decimal call ∷ image_text image ∷ []
+printed_words (StopAt node call image) =
+    codes "stop-at" ∷ decimal node ∷ decimal call ∷ image_text image ∷ []
 printed_words (Start node) = codes "start" ∷ decimal node ∷ []
 
 -- the line of a command: its words with one blank between each two

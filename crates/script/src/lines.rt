@@ -53,7 +53,10 @@ fn genesis_line(alloc: Global, words: &mut Words<'_>) -> Result<Command, Halt>
 {
     words.same(b"bft")?;
     let members = words.ids(alloc)?;
-    let Options { batch: _, byzantine } = words.options(alloc)?;
+    let Options {
+        batch: _,
+        byzantine,
+    } = words.options(alloc)?;
     words.end()?;
     Ok(Command::Genesis { members, byzantine })
 }

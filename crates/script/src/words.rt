@@ -7,7 +7,8 @@ ghost use Rattle.script.specs.Reading.{Reads, Gives, field, field_or, optional, 
 
 use crate::command::{Halt, Image, Options, Range, VoteKind, malformed};
 use crate::fields::{
-    batch, byzantine, device_call, entry, hex, id, ids, image, number, payload, ranges, ticks, vote_kind,
+    batch, byzantine, device_call, entry, hex, id, ids, image, number, payload, ranges, ticks,
+    vote_kind,
 };
 use memchr::memchr;
 use ord_types::{Bytes, List, NoMemory};
