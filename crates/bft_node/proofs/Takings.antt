@@ -28,7 +28,7 @@ use Rattle.std.proofs.lemmas.List.{take_all}
 use Rattle.ord_types.specs.declared.values.Config.{Config}
 use Rattle.ord_types.specs.declared.values.Place.{Place}
 use Rattle.gate_log.specs.Disk.{State, now}
-use Rattle.gate_log.specs.Runs.{Went}
+use Rattle.gate_log.specs.Runs.{Throughout}
 use Rattle.signer_edge.specs.Accepts.{Accepts as Acceptance}
 use Rattle.signer_edge.specs.Signing.{KeepsAccepted}
 use Rattle.block_ledger.specs.Chains.{IsChain}

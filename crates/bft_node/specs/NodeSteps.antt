@@ -1,7 +1,7 @@
 -- What a step of a node answers and leaves.
 use Rattle.std.specs.Prelude.{◌≡◌, ◌≤◌, ◌++◌, Bool, List, [], None, length, map, IsTrue, ℕ, Result, Ok, Err}
 use Rattle.gate_log.specs.Disk.{State, now}
-use Rattle.gate_log.specs.Runs.{Went}
+use Rattle.gate_log.specs.Runs.{Throughout}
 use Rattle.signer_edge.specs.Accepts.{Accepts as Acceptance}
 use Rattle.signer_edge.specs.Signing.{KeepsAccepted}
 use Rattle.node_model.specs.Cores.{after_entries}
@@ -49,7 +49,7 @@ Steps keys old new made signed (Err fault) = IsFront signed (statements_of made)
 abbrev pub OpensWithin : Running → List Entry → Acceptance → Acceptance → List State → List State → Type 0
 OpensWithin old made first accepts before after =
     IsChain first (config_of old.store) (chain_of old) → (judge : Acceptance) → KeepsAccepted accepts judge
-    → Went (Within judge (config_of old.store) (deeds_of made) (held_of old.store)) before after
+    → Throughout (Within judge (config_of old.store) (deeds_of made) (held_of old.store)) before after
 
 -- And every crash after the step, whatever it answered, opens to what a front of its entries leaves of which the
 -- signatures are those that were made.
@@ -72,7 +72,7 @@ StaysChain old new first accepts (Err fault) = Unit {0}
 abbrev pub StepsWithin : Running → List Entry → Acceptance → Acceptance → List State → List State → Type 0
 StepsWithin old made first accepts before after =
     Holds first old (now before) → (judge : Acceptance) → KeepsAccepted accepts judge
-    → Went (λ state. (image : Image) → IsCrash state image → KeepsFront judge old made image) before after
+    → Throughout (λ state. (image : Image) → IsCrash state image → KeepsFront judge old made image) before after
 
 -- And every crash after the step, whatever it answered, keeps a front of its entries of which the signatures
 -- are those that were made.

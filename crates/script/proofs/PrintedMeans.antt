@@ -17,7 +17,7 @@ use Rattle.script.specs.Words.{placed}
 use Rattle.script.specs.Fields.{number_of, id_of, ticks_of, device_call_of, entry_of, batch_of, byzantine_of}
 use Rattle.script.specs.Later.{is_later_word, is_later_option, is_later_genesis}
 use Rattle.script.specs.Grammar.{genesis_line, submit_line, raw_line, tick_line, deliver_line, flush_line, show_line, propose_line, vote_line, lie_line, seal_line, byzantine_line_of, stop_line, stop_at_line, start_line, stopping_line_of, line_of, command_of, judged, meaning}
-use Rattle.script.specs.Commands.{IsId, AreIds, AreRanges, IsWellFormed, IsGenesis, IsSubmit, IsRaw, IsTick, IsShow, IsPropose, IsVote, IsLie, IsSeal, IsStop, IsStopAt, IsStart}
+use Rattle.script.specs.Commands.{IsId, AreIds, AreRanges, IsWellFormed, IsGenesisLine, IsSubmit, IsRaw, IsTick, IsShow, IsPropose, IsVote, IsLie, IsSeal, IsStop, IsStopAt, IsStart}
 use Rattle.script.specs.Printed.{hex_pairs, ids_text, range_text, first_last_text, vote_text, image_text, printed_words, printed}
 use Rattle.script.specs.Forms.{SpellsRange}
 use Rattle.script.proofs.NumberTexts.{number_prints, not_zero_prints, IsPlain, decimal_plain, append_plain, split_joined}
@@ -262,7 +262,7 @@ with_true : (b other : Bool) → (b || (true || other)) ≡ true
 with_true true other = refl
 with_true false other = refl
 
-genesis_means : (members byzantine : List ℕ) → IsGenesis members byzantine → meaning (printed (Genesis members byzantine)) ≡ Means (Genesis members byzantine)
+genesis_means : (members byzantine : List ℕ) → IsGenesisLine members byzantine → meaning (printed (Genesis members byzantine)) ≡ Means (Genesis members byzantine)
 unfolding is_later_word is_later_option is_later_genesis line_of genesis_line batch_of byzantine_of number_of
 genesis_means members [] is =
     printed_means_if (Genesis members []) refl (omega arith)
