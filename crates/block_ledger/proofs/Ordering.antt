@@ -8,7 +8,7 @@ use Rattle.ord_types.specs.declared.values.Config.{Config}
 use Rattle.ord_types.specs.declared.values.Meta.{Meta}
 use Rattle.ord_types.specs.declared.values.Place.{Place}
 use Rattle.ord_types.specs.declared.values.Proof.TheVariants as proof_of
-use Rattle.chan_config.specs.Blocks.{change_in}
+use Rattle.chan_config.proofs.PlaceLaws.{next_config}
 use Rattle.block_ledger.specs.Chains.{Entry, IsGenesis, genesis_entry}
 use Rattle.block_ledger.specs.Orders.{IsBounded, IsInOrder}
 use Rattle.block_ledger.specs.Places.{first_place, next_place, place_after}
@@ -30,10 +30,6 @@ first_in_order c b is chain place chain_is place_is =
       some = omega (arith, ap length chain_is);
       behind = place_is ∙ sym (begins_at_first c) ∙ ap (λ (l : List Entry). place_after c l) (sym chain_is) ∙ ap (λ (d : Config). place_after d chain) (sym config);
     }
-
-next_config : (place : Place) (e : Entry) → (next_place place e).config ≡ place.config
-unfolding next_place change_in
-next_config place e = refl
 
 pub next_config_is : (place next : Place) (e : Entry) → next ≡ next_place place e → next.config ≡ place.config
 next_config_is place next e is = ap (λ (p : Place). p.config) is ∙ next_config place e

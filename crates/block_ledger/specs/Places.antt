@@ -4,7 +4,8 @@ use Rattle.ord_types.specs.Hashes.{block_hash}
 use Rattle.ord_types.specs.declared.values.Config.{Config}
 use Rattle.ord_types.specs.declared.values.Place.{Place}
 use Rattle.chan_config.specs.Blocks.{config_at}
-pub use Rattle.chan_config.specs.Places.{cert_in, first_place, next_place, start_after, start_behind}
+pub use Rattle.chan_config.specs.Places.{cert_in, first_place, start_after, start_behind}
+unfoldable pub use Rattle.chan_config.specs.Places.{next_place}
 use Rattle.block_ledger.specs.Chains.{Entry, blocks_in, genesis_entry}
 
 -- the last of these, or the one before them

@@ -1,3 +1,4 @@
 pub mod RequestLaws
 pub mod BlockLaws
 pub mod Fitting
+pub mod PlaceLaws
