@@ -10,7 +10,7 @@ use Rattle.safety_model.specs.Blocks.{Block, Request}
 use Rattle.safety_model.specs.Facts.{signers_of}
 use Rattle.safety_model.specs.declared.fact.Fact.{Fact}
 use Rattle.safety_model.specs.declared.fact.Fact.TheVariants.{Delivered}
-use Rattle.node_model.specs.Steps.{Ways}
+use Rattle.node_model.specs.Cores.{Core}
 use Rattle.world_model.specs.Pools.{Answer, Admitted, Malformed, KnownPending}
 use Rattle.world_model.specs.Worlds.{Node}
 

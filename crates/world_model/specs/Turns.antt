@@ -15,7 +15,8 @@ use Rattle.script.specs.declared.command.Range.{Range}
 use Rattle.script_play.specs.declared.ending.Ending.TheVariants.{TooManyFaulty}
 use Rattle.script_play.specs.Texts.{too_many_faulty_text}
 use Rattle.script_play.specs.Turns.{Turn}
-use Rattle.node_model.specs.Entries.{Entry as Happened, Event, facts_of}
+use Rattle.node_model.specs.declared.event.Event.{Event}
+use Rattle.node_model.specs.Entries.{Entry as Happened, facts_of}
 use Rattle.world_model.specs.Pools.{answer, pool_after}
 use Rattle.world_model.specs.Worlds.{Keeping, Setting, World, Node, Entry, Outcome, GoesOn, Stops, node_at, node_started, running_at, with_node, making, world_after, world_stopped, world_stopped_in, tick_of, entry, letter_from, marked, is_waiting}
 pub use Rattle.world_model.specs.Says.{goes_on, most_entries, ordinary, refuses, says, then_on, within_limit}

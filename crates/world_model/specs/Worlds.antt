@@ -11,13 +11,12 @@ use Rattle.signer_edge.specs.Seals.{is_sealed}
 use Rattle.bft_wire.specs.Spelling.{message_text}
 use Rattle.view_model.specs.Acts.{may_propose}
 use Rattle.node_model.specs.Cores.{Core}
+use Rattle.node_model.specs.declared.event.Event.{Event}
+use Rattle.node_model.specs.declared.event.Event.TheVariants.{FromMember, Tick}
 use Rattle.node_model.specs.Entries.{
   Entry as Happened,
-  Event,
-  FromMember,
   Opened,
   Post,
-  Tick,
   facts_of,
   posts_of,
   statements_of,
