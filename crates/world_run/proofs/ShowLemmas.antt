@@ -6,7 +6,7 @@ use Rattle.std.proofs.lemmas.List.{append_assoc, flat_map_more, length-map, take
 use Rattle.std.specs.Option.{option_map}
 use Rattle.ord_types.specs.declared.values.Proof.{Proof}
 use Rattle.block_ledger.specs.Ledgers.{blocks_of}
-use Rattle.node_model.specs.Restarts.{returned_ways}
+use Rattle.world_model.specs.Cores.{core_keeping}
 use Rattle.safety_model.specs.Blocks.{Block, Config}
 use Rattle.script_play.specs.Turns.{Turned}
 use Rattle.world_model.specs.Cores.{core_setting}
@@ -76,7 +76,7 @@ closed_stopped at w later id place is =
 
 pub closed_running : (at : Lodging) (w : World) (later : List Outcome) (id place : ℕ) (node : Node) (before after : List ℕ) → whereabouts_of id w.members.items ≡ Running place
     → option_map (λ (l : Lodged). l.node) (at id) ≡ Some node
-    → ((c : Config) (lodging : Lodging) (l : Lodged) (member : Member) → member.id ≡ id → lodging id ≡ Some l → l.node ≡ node → after ≡ before ++ closing_line returned_ways (node_of c lodging member))
+    → ((c : Config) (lodging : Lodging) (l : Lodged) (member : Member) → member.id ≡ id → lodging id ≡ Some l → l.node ≡ node → after ≡ before ++ closing_line core_keeping.look (node_of c lodging member))
     → after ≡ before ++ closing_of_member core_setting id (worlds.node_at id (world_of at w later).nodes)
 closed_running at w later id place node before after is there printed =
     let stands = where_running id w.members.items place is in

@@ -8,6 +8,7 @@ use Rattle.gate_log.specs.Disk.{MayLeave, now}
 use Rattle.gate_log.specs.History.{states}
 use Rattle.gate_log.specs.declared.image.Image.{Image}
 use Rattle.gate_log.specs.declared.memory.MemDisk.{MemDisk}
+use Rattle.node_model.specs.declared.event.Event.{Event}
 use Rattle.world_model.specs.Cores.{core_setting}
 use Rattle.world_model.specs.Pools.{settled}
 use Rattle.world_model.specs.Texts.{fact_text, stopped_text}
@@ -16,9 +17,7 @@ use Rattle.world_model.specs.Worlds as worlds
 use Rattle.world_model.specs.Worlds.{Outcome}
 use Rattle.bft_node.specs.Lodgings.{Becomes, IsOpenedOn, Lodging, accepts_of}
 use Rattle.bft_node.specs.Making.{sent_of}
-use Rattle.bft_node.specs.Running.{event_of}
 use Rattle.bft_node.specs.declared.live.Done.{Done}
-use Rattle.bft_node.specs.declared.live.Event.{Event}
 use Rattle.bft_node.specs.declared.live.Out.{Out}
 use Rattle.bft_node.specs.declared.lodged.Lodged.{Lodged}
 use Rattle.world_run.specs.Entries.{entry_of, posted}
@@ -90,5 +89,5 @@ pub record Crashes (before after : Lodging) (old new : World) (place : ℕ) (mem
 -- What an event of a node comes to: the turn of the model.
 pub record TakesEvent (at next : Lodging) (old new : World) (member : Member) (event : Event) (ending : Option Ending) : Type 0 where
   pub sound : IsSound next new
-  pub plays : Plays at next old new (λ w. event_turn core_setting old.outside.number w (node_of old.config at member) (event_of event)) ending
+  pub plays : Plays at next old new (λ w. event_turn core_setting old.outside.number w (node_of old.config at member) event) ending
   pub number : new.outside.number ≡ old.outside.number

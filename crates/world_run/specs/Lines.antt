@@ -5,7 +5,7 @@ use Rattle.script.specs.declared.command.Command.{Command}
 use Rattle.script.specs.declared.command.Command.TheVariants.{Genesis, Submit, Raw, Show, Tick, Deliver, Flush, Propose, Vote, Lie, Seal, Stop, StopAt, Start}
 use Rattle.script_play.specs.Turns.{Turn, Turned}
 use Rattle.script_play.specs.declared.ending.Ending.{Ending}
-use Rattle.node_model.specs.Restarts.{Returned}
+use Rattle.node_model.specs.Cores.{Core}
 use Rattle.world_model.specs.Stages.{Stage, Waits, Goes}
 use Rattle.world_model.specs.Worlds.{Outcome}
 use Rattle.bft_node.specs.Lodgings.{Lodging}
@@ -18,7 +18,7 @@ use Rattle.world_run.specs.declared.world.Whereabouts.TheVariants.{Running}
 use Rattle.world_run.specs.declared.world.World.{World}
 
 -- how far a script is, where these outcomes are still to come
-abbrev pub stage_at : Lodging → Option World → List Outcome → Stage Returned (Unit {0})
+abbrev pub stage_at : Lodging → Option World → List Outcome → Stage Core (Unit {0})
 stage_at at None later = Waits later
 stage_at at (Some w) later = Goes (world_of at w later)
 
@@ -40,7 +40,7 @@ decides (StopAt id call image) = ⊥
 decides (Start id) = Unit {0}
 
 -- A line by which the turn leads from stage to stage, with the moves of its nodes: the outcomes that it takes are theirs.
-pub record PlaysLine (at next : Lodging) (old new : Option World) (command : Command) (turn : Stage Returned (Unit {0}) → Turn (Stage Returned (Unit {0}))) (before after : List ℕ) (ending : Option Ending) : Type 0 where
+pub record PlaysLine (at next : Lodging) (old new : Option World) (command : Command) (turn : Stage Core (Unit {0}) → Turn (Stage Core (Unit {0}))) (before after : List ℕ) (ending : Option Ending) : Type 0 where
   pub config : Config
   pub moves : List Move
   pub made : AreMoves config at next moves

@@ -5,15 +5,13 @@ ghost use Rattle.gate_log.specs.Arms.{is_reached};
 ghost use Rattle.gate_log.specs.declared.image.Image.{Image as SomeImage};
 ghost use Rattle.gate_log.specs.declared.memory.MemDisk.{MemDisk as SomeDisk};
 ghost use Rattle.script_play.specs.Turns.{EndsTurn, Turned};
-ghost use Rattle.node_model.specs.Restarts.{returned_ways};
-ghost use Rattle.world_model.specs.Cores.{core_setting};
+ghost use Rattle.world_model.specs.Cores.{core_keeping, core_setting};
 ghost use Rattle.world_model.specs.Pools.{offer};
 ghost use Rattle.world_model.specs.Turns.{event_turn, start_turn, stop_at_turn, stop_turn, tick_at};
 ghost use Rattle.world_model.specs.Worlds as worlds;
 ghost use Rattle.world_model.specs.Worlds.{Outcome};
-ghost use Rattle.node_model.specs.Steps.{FromMember};
+ghost use Rattle.node_model.specs.declared.event.Event.TheVariants.{FromMember};
 ghost use Rattle.bft_node.specs.Lodgings.{Lodging};
-ghost use Rattle.bft_node.specs.Running.{event_of};
 ghost use Rattle.bft_node.specs.declared.lodged.Lodged.{Lodged};
 ghost use Rattle.world_run.specs.Answers.{image_of};
 ghost use Rattle.world_run.specs.Members.{node_of};
@@ -23,8 +21,9 @@ use crate::network::add_sends;
 use crate::pool::{offer, settle};
 use crate::texts::{put_facts, put_start, put_stop_at, put_stopped};
 use crate::world::World;
-use bft_node::{Event, NodeFault, Nodes, Out, deeds_are_found, stored_deeds_stand};
+use bft_node::{NodeFault, Nodes, Out, nodes_are_found};
 use gate_log::{Image, MemDisk};
+use node_model::Event;
 use ord_types::{Bytes, List, NoMemory, Request};
 use script_play::Ending;
 
@@ -50,7 +49,7 @@ impl World {
     fn offer_to<N: Nodes>(&self, nodes: &N, place: usize) -> Result<List<Request>, NoMemory>
         requires sound { IsSound (N.at nodes.now) self.now }
         requires there { (member : SomeMember) × (slice_get self.now.members.items place ≡ Some member) }
-        ensures { IfOk result (λ offer. (member : SomeMember) → slice_get self.now.members.items place ≡ Some member → offer ≡ worlds.offer_to returned_ways (node_of self.now.config (N.at nodes.now) member)) }
+        ensures { IfOk result (λ offer. (member : SomeMember) → slice_get self.now.members.items place ≡ Some member → offer ≡ worlds.offer_to core_keeping (node_of self.now.config (N.at nodes.now) member)) }
     {
         let alloc = self.outside.alloc;
         let member = &self.members[place];
@@ -130,7 +129,6 @@ impl World {
         ensures ends { IfOk result (λ ending. IfSome ending EndsTurn) }
         ensures takes { IfOk result (λ ending. (member : SomeMember) → slice_get self.old.members.items place ≡ Some member → TakesEvent (N.at nodes.old) (N.at nodes.new) self.old self.new member event ending) }
     {
-        deeds_are_found();
         let id = self.members[place].id;
         self.give_seat(id)?;
         match nodes.step(id, event, &mut self.outside.seat) {
@@ -194,8 +192,7 @@ impl World {
             Plays (N.at nodes.old) (N.at nodes.new) self.old self.new (λ w. stop_turn core_setting self.old.outside.number w (node_of self.old.config (N.at nodes.old) member)) None) }
         ensures number { OnOk result (self.new.outside.number ≡ self.old.outside.number) }
     {
-        deeds_are_found();
-        stored_deeds_stand();
+        nodes_are_found();
         let disk = nodes.stop(self.members[place].id);
         self.crash(nodes, place, disk, image)
     }

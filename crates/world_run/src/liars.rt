@@ -235,7 +235,7 @@ impl World {
     ) -> Result<Option<Bytes>, NoMemory>
         requires sound { IsSound (N.at nodes.now) self.now }
         requires fits { FitsRequest request }
-        ensures { IfOk result (λ bytes. (later : Items Outcome) → bytes ≡ option_map (λ node. message_text (proposal_of node.state.core.place view request)) (longest (world_of (N.at nodes.now) self.now later).nodes)) }
+        ensures { IfOk result (λ bytes. (later : Items Outcome) → bytes ≡ option_map (λ node. message_text (proposal_of node.state.place view request)) (longest (world_of (N.at nodes.now) self.now later).nodes)) }
     {
         let Some(id) = longest(nodes, self.members.as_slice()) else {
             return Ok(None);

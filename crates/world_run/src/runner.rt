@@ -5,12 +5,12 @@ ghost use Rattle.ord_types.specs.Spelling.{request_text};
 ghost use Rattle.script.specs.Commands.{AreIds, IsWellFormed};
 ghost use Rattle.script.specs.declared.command.Command.TheVariants as command_of;
 ghost use Rattle.script_play.specs.Turns.{EndsTurn, Turned};
-ghost use Rattle.node_model.specs.Restarts.{Returned};
+ghost use Rattle.node_model.specs.Cores.{Core};
 ghost use Rattle.world_model.specs.Cores.{core_setting};
 ghost use Rattle.world_model.specs.Stages.{Stage, stage_closing, stage_turn};
 ghost use Rattle.world_model.specs.Turns.{at_node, ordinary, submit_turn, turn_in};
 ghost use Rattle.world_model.specs.Worlds.{Outcome};
-ghost use Rattle.bft_node.specs.Lodgings.{Lodging, StaysAlike};
+ghost use Rattle.bft_node.specs.Lodgings.{Lodging};
 ghost use Rattle.world_run.specs.Answers.{image_of};
 ghost use Rattle.world_run.specs.Going.{ByMoves, Plays, Says};
 ghost use Rattle.world_run.specs.Lines.{ArmsBy, PlaysLine, decides, stage_at};
@@ -420,7 +420,7 @@ fn turn_in<N: Nodes>(
 }
 
 impl<N: Nodes> Machine for Runner<N> {
-    ghost World = { Stage Returned (Unit {0}) };
+    ghost World = { Stage Core (Unit {0}) };
 
     ghost Choice = { Outcome };
 

@@ -2,14 +2,13 @@
 ghost use Rattle.std.specs.Prelude.{◌≡◌, ◌++◌, IfOk, IfSome, List as Items, OnOk, Some, None, codes, slice_get, string_bytes};
 ghost use Rattle.safety_model.specs.Blocks.{Config as SomeConfig};
 ghost use Rattle.script_play.specs.Turns.{EndsTurn, Turned};
-ghost use Rattle.node_model.specs.Restarts.{returned_ways};
-ghost use Rattle.world_model.specs.Cores.{core_setting};
+ghost use Rattle.world_model.specs.Cores.{core_keeping, core_setting};
 ghost use Rattle.world_model.specs.Says.{refuses};
 ghost use Rattle.world_model.specs.Texts.{closing_line};
 ghost use Rattle.world_model.specs.Turns.{absence, closing_of, closing_of_member, show_turn, submit_turn};
 ghost use Rattle.world_model.specs.Worlds as worlds;
 ghost use Rattle.world_model.specs.Worlds.{Outcome};
-ghost use Rattle.bft_node.specs.Lodgings.{Lodging, StaysAlike};
+ghost use Rattle.bft_node.specs.Lodgings.{Lodging, ReadsAt};
 ghost use Rattle.bft_node.specs.declared.lodged.Lodged.{Lodged};
 ghost use Rattle.world_run.specs.Members.{node_of};
 ghost use Rattle.world_run.specs.declared.member.Member.{Member as SomeMember};
@@ -27,7 +26,7 @@ use std::alloc::AllocError;
 /// The closing line of a node that runs.
 fn put_running(text: &mut String, id: u32, node: &Node) -> Result<(), AllocError>
     ensures { OnOk result ((c : SomeConfig) (at : Lodging) (l : Lodged) (member : SomeMember) → member.id ≡ id → at id ≡ Some l → l.node ≡ node.now →
-        string_bytes text.new ≡ string_bytes text.old ++ closing_line returned_ways (node_of c at member)) }
+        string_bytes text.new ≡ string_bytes text.old ++ closing_line core_keeping.look (node_of c at member)) }
 {
     let place = node.ledger().place();
     let view = node.view();
@@ -107,7 +106,8 @@ impl World {
         requires there { (member : SomeMember) × (slice_get self.old.members.items place ≡ Some member) }
         ensures turned { OnOk result ((later : Items Outcome) (member : SomeMember) → slice_get self.old.members.items place ≡ Some member →
             Turned (show_turn self.old.outside.number (world_of (N.at nodes.old) self.old later) (node_of self.old.config (N.at nodes.old) member) number) (string_bytes self.old.outside.text) (string_bytes self.new.outside.text) (world_of (N.at nodes.old) self.new later) None) }
-        ensures same { StaysAlike (N.at nodes.old) (N.at nodes.new) }
+        ensures reads { OnOk result ((member : SomeMember) → slice_get self.old.members.items place ≡ Some member
+            → ReadsAt (N.at nodes.old) (N.at nodes.new) member.id) }
         ensures keeps { OnOk result (KeepsNodes self.old self.new) }
     {
         let id = self.members[place].id;

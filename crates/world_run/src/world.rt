@@ -13,7 +13,7 @@ ghost use Rattle.world_run.specs.Waiting.{waits_before};
 
 use crate::member::{Member, Outside};
 use crate::texts::put_limit;
-use bft_node::{Nodes, Setup, deeds_are_found};
+use bft_node::{Nodes, Setup, nodes_are_found};
 use gate_log::MemDisk;
 use ord_types::{Batch, Config, Copied, Kind, List, Mode, NoMemory};
 use script_play::Ending;
@@ -128,7 +128,7 @@ impl World {
         ensures moves { OnOk result ((moves : Items Move) × AreMoves self.old.config (N.at nodes.old) (N.at nodes.new) moves × (outcomes_of moves ≡ [])) }
         ensures value { OnOk result ((later : Items Outcome) → world_of (N.at nodes.new) self.new later ≡ first_world core_setting later self.old.config self.old.byzantine) }
     {
-        deeds_are_found();
+        nodes_are_found();
         for place in 0..self.config.members.len() {
             let id = self.config.members.as_slice()[place];
             if !self.byzantine.as_slice().contains(&id) {
