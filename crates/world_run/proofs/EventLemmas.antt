@@ -17,6 +17,7 @@ use Rattle.node_model.specs.declared.event.Event.TheVariants.{Tick}
 use Rattle.bft_node.specs.declared.live.Out.{Out}
 use Rattle.bft_node.specs.declared.lodged.Lodged.{Lodged}
 use Rattle.bft_node.specs.declared.node_fault.NodeFault.TheVariants as fault_of
+use Rattle.world_run.specs.AtPlaces.{AtPlace, HasRunning}
 use Rattle.world_run.specs.Following.{Crashes, Follows, TakesEvent}
 use Rattle.world_run.specs.Going.{Plays}
 use Rattle.world_run.specs.Members.{node_of}
@@ -57,10 +58,10 @@ pub event_went : (result : Result (Option Ending) NoMemory) (at next : Lodging) 
     → slice_get old.members.items place ≡ Some read → read.runs ≡ true → seat ≡ seat_of old read.id
     → StepsAt at next read.id event seat after (Ok out)
     → IfOk result (λ ending. (member : Member) → slice_get mid.members.items place ≡ Some member
-      → Follows mid new place member out ending)
+    → Follows mid new place member out ending)
     → Between old mid after
     → IfOk result (λ ending. (member : Member) → slice_get old.members.items place ≡ Some member
-      → TakesEvent at next old new member event ending)
+    → TakesEvent at next old new member event ending)
 event_went (Err e) at next old mid new place read event seat after out sound has runs same steps follows between = tt
 event_went (Ok ending) at next old mid new place read event seat after out sound has runs same steps follows between =
     let here = member_at at old place read sound has in
@@ -84,12 +85,10 @@ event_went (Ok ending) at next old mid new place read event seat after out sound
 pub event_failed : (at lodging next : Lodging) (old mid new : World) (place : ℕ) (read : Member) (event : Event)
     (seat after : Seat) → IsSound at old → slice_get old.members.items place ≡ Some read
     → seat ≡ seat_of old read.id → StepsAt at lodging read.id event seat after (Err fault_of.Disk)
-    → ((member : Member) → slice_get mid.members.items place ≡ Some member → member.armed ≡ true)
-    → ((member : Member) (failed : Lodged) → slice_get mid.members.items place ≡ Some member
-      → lodging member.id ≡ Some failed
-      → (is_reached failed.disk.arm ≡ true) × Crashes lodging next mid new place member failed.disk Keep)
-    → Between old mid after → (member : Member) → slice_get old.members.items place ≡ Some member
-    → TakesEvent at next old new member event None
+    → AtPlace mid place (λ member. member.armed ≡ true)
+    → AtPlace mid place (λ member. (failed : Lodged) → lodging member.id ≡ Some failed
+    → (is_reached failed.disk.arm ≡ true) × Crashes lodging next mid new place member failed.disk Keep)
+    → Between old mid after → AtPlace old place (λ member. TakesEvent at next old new member event None)
 event_failed at lodging next old mid new place read event seat after sound has same steps armed crashes between =
     let here = member_at at old place read sound has in
     let l = here.node in
@@ -97,17 +96,17 @@ event_failed at lodging next old mid new place read event seat after sound has s
     let failed = stepped_to.0 in
     let is = subst (λ (s : Seat). IsStepOf l failed event s after (Err fault_of.Disk)) same stepped_to.1 in
     let there = ap (λ v. slice_get v.items place) between.members ∙ has in
-    let crash = crashes read failed there stepped_to.2.there in
+    let crash = crashes read there failed stepped_to.2.there in
     let crashed = crashes_behind at lodging next mid new place read failed.disk Keep (Some failed) stepped_to.2
-        crash.1 in
+    crash.1 in
     let opens : IsOpenedOn (setup_of old.config read.id) (accepts_of after) crashed.left crashed.node =
-        subst (λ (c : Config). IsOpenedOn (setup_of c read.id) (accepts_of after) crashed.left crashed.node)
-        between.config
-        (subst (λ (o : Outside).
-        IsOpenedOn (setup_of mid.config read.id) (accepts_of o.seat) crashed.left crashed.node) between.outside
-        crashed.opened) in
+    subst (λ (c : Config). IsOpenedOn (setup_of c read.id) (accepts_of after) crashed.left crashed.node)
+    between.config
+    (subst (λ (o : Outside).
+    IsOpenedOn (setup_of mid.config read.id) (accepts_of o.seat) crashed.left crashed.node) between.outside
+    crashed.opened) in
     let stopped = stopped_in old.config (seat_of old read.id) l failed crashed.node event after Keep crashed.left
-        here.seated is crashed.crash opens in
+    here.seated is crashed.crash opens in
     let first = take stopped.cut (making read.id (seat_of old read.id) l event) in
     took_told at next old new place read event None has
     (record {
@@ -123,10 +122,7 @@ event_failed at lodging next old mid new place read event seat after sound has s
 
 -- what an event of the member at this place came to
 abbrev pub Took : Lodging → Lodging → World → World → ℕ → Event → Option Ending → Type 0
-Took at next old new place event ending = (member : Member) → slice_get old.members.items place ≡ Some member → TakesEvent at next old new member event ending
-
-abbrev HasRunning : World → ℕ → Type 0
-HasRunning w place = (member : Member) × (slice_get w.members.items place ≡ Some member) × (member.runs ≡ true)
+Took at next old new place event ending = AtPlace old place (λ member. TakesEvent at next old new member event ending)
 
 pub took_sound : (result : Result (Option Ending) NoMemory) (at next : Lodging) (old new : World) (place : ℕ) (event : Event) → HasRunning old place → IfOk result (Took at next old new place event) → OnOk result (IsSound next new)
 took_sound (Ok ending) at next old new place event there took = (took there.0 there.1).sound

@@ -64,8 +64,8 @@ pub opens_fresh : EmptyFilesKeep → (c : Config) (id : ℕ) (accepts : Accepts)
 opens_fresh keep c id accepts disk l genesis unsealed empty is =
     let chain : List Entry = genesis_entry c ∷ [] in
     let keeps : Keeps accepts c id (files_of disk) chain (core_on c id) =
-        subst (λ (files : Files). Keeps accepts c id files chain (core_on c id)) (sym (files_empty disk empty))
-        (keep accepts c id genesis) in
+    subst (λ (files : Files). Keeps accepts c id files chain (core_on c id)) (sym (files_empty disk empty))
+    (keep accepts c id genesis) in
     let found = is.finds chain (core_on c id) keeps in
     record {
       seated = record {
@@ -124,7 +124,7 @@ node_first c at member is =
     let r = is.node.node.running in
     node_there c at member is.node is.there
     ∙ node_made c member.id (state_of r) member.pool.items (chain_of r) member.runs member.armed is.fresh.state
-      is.pool is.fresh.chain is.runs is.armed
+    is.pool is.fresh.chain is.runs is.armed
 
 nodes_first : (c : Config) (at : Lodging) (members : List Member) → AllByRecursion (IsFirst c at) members
     → map (node_of c at) members ≡ map (first_node core_keeping c) (ids_of members)
@@ -194,10 +194,10 @@ has_more keep before at next old w new k id genesis rise within is correct_one b
     let correct' : p (get_or ids k 0) ≡ true = ap p (sym is) ∙ ap not correct_one in
     let one : Move = Opens id begun.disk w.outside.seat in
     let opened' = subst (λ (c : Config).
-        IsOpenedOn (setup_of c id) (accepts_of w.outside.seat) begun.disk begun.node) has.config begun.opened in
+    IsOpenedOn (setup_of c id) (accepts_of w.outside.seat) begun.disk begun.node) has.config begun.opened in
     let fresh' : IsFresh old.config id begun.node =
-        opens_fresh keep old.config id (accepts_of w.outside.seat) begun.disk begun.node genesis
-        (ap is_sealed has.seals) begun.empty opened' in
+    opens_fresh keep old.config id (accepts_of w.outside.seat) begun.disk begun.node genesis
+    (ap is_sealed has.seals) begun.empty opened' in
     record {
       config = begun.config ∙ has.config;
       byzantine = begun.byzantine ∙ has.byzantine;

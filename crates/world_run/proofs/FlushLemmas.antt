@@ -11,7 +11,8 @@ use Rattle.node_model.specs.Cores.{Core}
 use Rattle.node_model.specs.declared.event.Event.{Event}
 use Rattle.script_play.specs.declared.ending.Ending.{Ending}
 use Rattle.script_play.specs.Turns.{Turn, Turned}
-use Rattle.world_model.specs.Cores.{core_setting}
+use Rattle.node_model.specs.Entries.{facts_of, posts_of}
+use Rattle.world_model.specs.Cores.{core_keeping, core_setting}
 use Rattle.world_model.specs.Texts.{fact_text, flush_text}
 use Rattle.world_model.specs.Turns.{delivery, delivery_to, event_by, event_goes, event_turn, first_outcome, flush_turn, flushes, goes_on, says, with_later, within_limit}
 use Rattle.world_model.specs.Worlds as worlds
@@ -77,30 +78,37 @@ within_limit_next : (number : ℕ) (blocks : List ℕ) (w next : Model) → (wit
 within_limit_next number blocks w next e =
     same_Ok w next (limited_next (ltb 1000000 (length w.network)) _ (says blocks w) next e (λ stopped. cc))
 
-event_goes_leaves : (number k : ℕ) (e : worlds.Entry) (w v next : Model) (node : worlds.Node Core) (event : Event) → v.nodes ≡ w.nodes → v.network ≡ set w.network k (record e { came = true })
+event_goes_leaves : (number k : ℕ) (e : worlds.Entry) (w v next : Model) (node : worlds.Node Core) (event : Event)
+    → v.nodes ≡ w.nodes → v.network ≡ set w.network k (record e { came = true })
     → (event_goes core_setting number v node event).next ≡ Ok next → Leaves k e node w next
 event_goes_leaves number k e w v next node event nodes network is =
-    let m = worlds.making core_setting v node event in
-    let left = sym (within_limit_next number (flat_map (fact_text number) m.facts) (worlds.world_after core_setting v node m) next is) in
+    let made = worlds.making core_setting v node event in
+    let blocks = flat_map (fact_text number) (facts_of made) in
+    let sends = worlds.sent_by node.id (posts_of made) in
+    let after = worlds.node_after core_keeping node made in
+    let left = sym (within_limit_next number blocks (worlds.world_after core_setting v node made) next is) in
     record {
-      more = worlds.sent_by node.id m.posts;
-      network = ap (λ (x : Model). x.network) left ∙ ap (λ (es : List worlds.Entry). es ++ worlds.sent_by node.id m.posts) network;
-      left = worlds.node_after node m;
-      nodes = ap (λ (x : Model). x.nodes) left ∙ ap (worlds.with_node (worlds.node_after node m)) nodes;
+      more = sends;
+      network = ap (λ (x : Model). x.network) left ∙ ap (λ (es : List worlds.Entry). es ++ sends) network;
+      left = after;
+      nodes = ap (λ (x : Model). x.nodes) left ∙ ap (worlds.with_node after) nodes;
       same = refl;
     }
 
-event_by_leaves : (number k : ℕ) (e : worlds.Entry) (w v next : Model) (node : worlds.Node Core) (event : Event) (outcome : Outcome) → v.nodes ≡ w.nodes → v.network ≡ set w.network k (record e { came = true })
+event_by_leaves : (number k : ℕ) (e : worlds.Entry) (w v next : Model) (node : worlds.Node Core) (event : Event)
+    (outcome : Outcome) → v.nodes ≡ w.nodes → v.network ≡ set w.network k (record e { came = true })
     → (event_by core_setting number v node event outcome).next ≡ Ok next → Leaves k e node w next
-event_by_leaves number k e w v next node event GoesOn nodes network is = event_goes_leaves number k e w v next node event nodes network is
-event_by_leaves number k e w v next node event (Stops kept signed) nodes network is =
-    let stopped = worlds.world_stopped_in core_setting v node event kept signed in
-    let left = sym (same_Ok stopped next is) in
+event_by_leaves number k e w v next node event GoesOn nodes network is =
+    event_goes_leaves number k e w v next node event nodes network is
+event_by_leaves number k e w v next node event (Stops cut) nodes network is =
+    let after = worlds.node_stopped core_keeping node (take cut (worlds.making core_setting v node event)) in
+    let left = sym (same_Ok (worlds.world_stopped_in core_setting v node event cut) next is) in
     record {
       more = [];
-      network = ap (λ (x : Model). x.network) left ∙ network ∙ sym (append-nil (set w.network k (record e { came = true })));
-      left = worlds.node_stopped core_setting node (take kept (worlds.deeds_in core_setting v node event));
-      nodes = ap (λ (x : Model). x.nodes) left ∙ ap (worlds.with_node (worlds.node_stopped core_setting node (take kept (worlds.deeds_in core_setting v node event)))) nodes;
+      network = ap (λ (x : Model). x.network) left ∙ network
+          ∙ sym (append-nil (set w.network k (record e { came = true })));
+      left = after;
+      nodes = ap (λ (x : Model). x.nodes) left ∙ ap (worlds.with_node after) nodes;
       same = refl;
     }
 

@@ -123,7 +123,7 @@ pub sound_looks : (at next : Lodging) (old new : World) → KeepsNodes old new �
 sound_looks at next old new keeps looks sound =
     let kept = sound_kept at at old new keeps (alike_self at) sound in
     let alike : LooksAlike new.config at next =
-        subst (λ (c : Config). LooksAlike c at next) (sym keeps.config) looks in
+    subst (λ (c : Config). LooksAlike c at next) (sym keeps.config) looks in
     record {
       config = kept.config;
       ids = kept.ids;
@@ -135,11 +135,11 @@ pub plays_read : (at next : Lodging) (old new : World) (id : ℕ) (t u : Model �
     → KeepsNodes old new → ReadsAt at next id → LooksAlike old.config at next
     → ((later : List Outcome) → t (world_of at old later) ≡ u (world_of at old later))
     → ((later : List Outcome) → Turned (t (world_of at old later)) (string_bytes old.outside.text)
-      (string_bytes new.outside.text) (world_of at new later) ending)
+    (string_bytes new.outside.text) (world_of at new later) ending)
     → Plays at next old new u ending
 plays_read at next old new id t u ending keeps reads looks same turned =
     let alike : LooksAlike new.config at next =
-        subst (λ (c : Config). LooksAlike c at next) (sym keeps.config) looks in
+    subst (λ (c : Config). LooksAlike c at next) (sym keeps.config) looks in
     record {
       moves = Reads id ∷ [];
       made = (next, reads, alike_self next);

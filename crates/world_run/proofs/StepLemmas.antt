@@ -135,15 +135,15 @@ posted_is i (post ∷ posts) =
 pub same_node : (i j : ℕ) (r s : Core) (p q : List Request) (k l : List Stored) (a b c d : Bool) → i ≡ j → r ≡ s
     → p ≡ q → k ≡ l → a ≡ b → c ≡ d
     → ◌≡◌ {A = worlds.Node Core}
-      (record { id = i; state = r; pool = p; ledger = k; runs = a; armed = c })
-      (record { id = j; state = s; pool = q; ledger = l; runs = b; armed = d })
+    (record { id = i; state = r; pool = p; ledger = k; runs = a; armed = c })
+    (record { id = j; state = s; pool = q; ledger = l; runs = b; armed = d })
 same_node i j r s p q k l a b c d e f g h m n = rw (e, f, g, h, m, n) refl
 
 pub same_model : (c d : Config) (b b' : List ℕ) (ns ms : List (worlds.Node Core)) (es fs : List worlds.Entry)
     (ss ts : List Seal) (later : List Outcome) → c ≡ d → b ≡ b' → ns ≡ ms → es ≡ fs → ss ≡ ts
     → ◌≡◌ {A = Model}
-      (record { config = c; byzantine = b; nodes = ns; network = es; seals = ss; told = tt; outcomes = later })
-      (record { config = d; byzantine = b'; nodes = ms; network = fs; seals = ts; told = tt; outcomes = later })
+    (record { config = c; byzantine = b; nodes = ns; network = es; seals = ss; told = tt; outcomes = later })
+    (record { config = d; byzantine = b'; nodes = ms; network = fs; seals = ts; told = tt; outcomes = later })
 same_model c d b b' ns ms es fs ss ts later p q r s t = rw (p, q, r, s, t) refl
 
 -- what stands between a step and what is done after it: the seat signed
@@ -158,7 +158,7 @@ module _ (at next : Lodging) (old mid new : World) (place : ℕ) (member : Membe
     (has : slice_get old.members.items place ≡ Some member) (runs : member.runs ≡ true)
     (there : at member.id ≡ Some l) (becomes : Becomes at next member.id (Some node))
     (did : Stepped old.config (seat_of old member.id) l node event after out
-      (making member.id (seat_of old member.id) l event))
+    (making member.id (seat_of old member.id) l event))
     (between : Between old mid after) (follows : Follows mid new place member out ending) where
   abbrev m : List Entry
   m = making member.id (seat_of old member.id) l event
@@ -175,11 +175,11 @@ module _ (at next : Lodging) (old mid new : World) (place : ℕ) (member : Membe
   nodes_are =
       ap (λ (n : worlds.Node Core). worlds.with_node n (map (node_of old.config at) old.members.items)) node_is
       ∙ with_node_becomes old.config at next old.members.items place member follows.moved (Some node) sound.ids has
-        follows.id (subst (λ (i : ℕ). Becomes at next i (Some node)) (sym follows.id) becomes)
+      follows.id (subst (λ (i : ℕ). Becomes at next i (Some node)) (sym follows.id) becomes)
       ∙ ap (λ (c : Config). map (node_of c next) (slice_set old.members.items place follows.moved))
-        (sym between.config)
+      (sym between.config)
       ∙ ap (λ (v : Vec Member Global). map (node_of mid.config next) (slice_set v.items place follows.moved))
-        (sym between.members)
+      (sym between.members)
 
   network_is : map entry_of old.outside.network.items ++ sent_by member.id (posts_of m)
       ≡ network_after mid member.id out
@@ -187,15 +187,15 @@ module _ (at next : Lodging) (old mid new : World) (place : ℕ) (member : Membe
       ap (λ (es : List worlds.Entry). map entry_of old.outside.network.items ++ es)
       (sym (posted_is member.id (posts_of m)) ∙ ap (posted member.id) (sym did.sends))
       ∙ ap (λ (o : Outside). map entry_of o.network.items ++ posted member.id (map sent_of out.sends))
-        (sym between.outside)
+      (sym between.outside)
 
   seals_are : old.outside.seat.seals ++ seals_of member.id (statements_of m) ≡ mid.outside.seat.seals
   seals_are = sym did.seals ∙ ap (λ (o : Outside). o.seat.seals) (sym between.outside)
 
   world_is : (later : List Outcome)
       → worlds.world_after core_setting (world_of at old later) (node_with member l) m
-        ≡ world_with next mid (slice_set mid.members.items place follows.moved)
-          (network_after mid member.id out) later
+      ≡ world_with next mid (slice_set mid.members.items place follows.moved)
+      (network_after mid member.id out) later
   world_is later =
       same_model _ _ _ _ _ _ _ _ _ _ later (sym between.config) (sym between.byzantine) nodes_are network_is
       seals_are
@@ -203,13 +203,13 @@ module _ (at next : Lodging) (old mid new : World) (place : ℕ) (member : Membe
   -- an event that goes on
   goes : (later : List Outcome)
       → Turned (event_goes core_setting old.outside.number (world_of at old later) (node_with member l) event)
-        (string_bytes old.outside.text) (string_bytes new.outside.text) (world_of next new later) ending
+      (string_bytes old.outside.text) (string_bytes new.outside.text) (world_of next new later) ending
   goes later =
       let number : mid.outside.number ≡ old.outside.number = ap (λ (o : Outside). o.number) between.outside in
       let text : string_bytes mid.outside.text ≡ string_bytes old.outside.text =
-          ap (λ (o : Outside). string_bytes o.text) between.outside in
+      ap (λ (o : Outside). string_bytes o.text) between.outside in
       let w = world_with next mid (slice_set mid.members.items place follows.moved)
-          (network_after mid member.id out) later in
+      (network_after mid member.id out) later in
       subst (λ (before : List ℕ).
       Turned (event_goes core_setting old.outside.number (world_of at old later) (node_with member l) event) before
       (string_bytes new.outside.text) (world_of next new later) ending) text
@@ -217,16 +217,16 @@ module _ (at next : Lodging) (old mid new : World) (place : ℕ) (member : Membe
       ending
       (ap (λ (n : ℕ). within_limit n (flat_map (fact_text n) out.facts) w) number
       ∙ ap (λ (fs : List Fact). within_limit old.outside.number (flat_map (fact_text old.outside.number) fs) w)
-        did.facts
+      did.facts
       ∙ ap (λ (x : Model). within_limit old.outside.number (flat_map (fact_text old.outside.number) (facts_of m)) x)
-        (sym (world_is later)))
+      (sym (world_is later)))
       (follows.turned next later))
 
   keeps_all : KeepsAccepted (accepts_of old.outside.seat) (accepts_of new.outside.seat)
   keeps_all = λ t sig h.
       let sealed = seals_of member.id (statements_of m) in
       let seals : new.outside.seat.seals ≡ old.outside.seat.seals ++ sealed =
-          ap (λ (s : SealSeat). s.seals) follows.seat ∙ sym seals_are in
+      ap (λ (s : SealSeat). s.seals) follows.seat ∙ sym seals_are in
       subst (λ (box : List Seal). is_sealed box t sig ≡ true) (sym seals)
       (is_sealed-grown old.outside.seat.seals sealed t sig h)
 
@@ -253,8 +253,8 @@ module _ (at next : Lodging) (old mid new : World) (place : ℕ) (member : Membe
 turn_taken : (b : Bool) (number : ℕ) (at : Lodging) (old : World) (later : List Outcome) (node : worlds.Node Core)
     (id : ℕ) (event : Event) (seat after : Seat) (out : Out) → node.armed ≡ b
     → event_goes core_setting number (world_of at old later) node event
-      ≡ event_turn core_setting number
-        (world_of at old (outcomes_of (Takes id event b seat after out ∷ []) ++ later)) node event
+    ≡ event_turn core_setting number
+    (world_of at old (outcomes_of (Takes id event b seat after out ∷ []) ++ later)) node event
 unfolding event_turn
 turn_taken true number at old later node id event seat after out armed = rw armed refl
 turn_taken false number at old later node id event seat after out armed = rw armed refl
@@ -270,19 +270,25 @@ pub event_taken : (at next : Lodging) (old mid new : World) (place : ℕ) (membe
     → slice_get old.members.items place ≡ Some member → member.runs ≡ true → at member.id ≡ Some l
     → Becomes at next member.id (Some node) → IsStepOf l node event (seat_of old member.id) after (Ok out)
     → Stepped old.config (seat_of old member.id) l node event after out
-      (making member.id (seat_of old member.id) l event)
+    (making member.id (seat_of old member.id) l event)
     → Between old mid after → Follows mid new place member out ending
     → Plays at next old new
-      (λ w. event_turn core_setting old.outside.number w (node_of old.config at member) event) ending
+    (λ w. event_turn core_setting old.outside.number w (node_of old.config at member) event) ending
 event_taken at next old mid new place member l node event after out ending sound has runs there becomes is did
     between follows =
     let seat = seat_of old member.id in
     let move = Takes member.id event member.armed seat after out in
     record {
       moves = move ∷ [];
-      made = (next, (λ l' there'. (node,
+      made = (
+        next,
+        (λ l' there'. (
+          node,
           subst (λ (x : Lodged). IsStepOf x node event seat after (Ok out)) (same_Some l l' (sym there ∙ there')) is,
-          becomes)), alike_self next);
+          becomes,
+        )),
+        alike_self next,
+      );
       config = config_is at next old mid new place member l node event after out ending sound has runs there becomes
           did between follows;
       so = λ later.
@@ -291,15 +297,15 @@ event_taken at next old mid new place member l node event after out ending sound
           (turn_taken member.armed old.outside.number at old later (node_with member l) member.id event seat after
           out refl
           ∙ ap (λ (n : worlds.Node Core). event_turn core_setting old.outside.number
-            (world_of at old (outcomes_of (move ∷ []) ++ later)) n event)
-            (sym (node_there old.config at member l there)))
+          (world_of at old (outcomes_of (move ∷ []) ++ later)) n event)
+          (sym (node_there old.config at member l there)))
           (goes at next old mid new place member l node event after out ending sound has runs there becomes did
           between follows later);
       decided = λ quiet none.
           let unarmed = unarmed_at old place member none has in (
             quiet_taken member.armed member.id event seat after out unarmed,
             unarmed_set old new place follows.moved none (follows.armed ∙ unarmed)
-            (members_are at next old mid new place member l node event after out ending sound has runs there becomes
-            did between follows),
+                (members_are at next old mid new place member l node event after out ending sound has runs there becomes
+                did between follows),
           );
     }

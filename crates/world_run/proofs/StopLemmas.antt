@@ -104,14 +104,14 @@ pub record Reopened (c : Config) (accepts : Accepts) (id : ℕ) (l node : Lodged
 reopened : (c : Config) (accepts : Accepts) (id : ℕ) (l node : Lodged) (left : MemDisk) (made : List Entry)
     → config_of l.node.running.store ≡ c → l.node.running.id ≡ id → IsOpenedOn (setup_of c id) accepts left node
     → Keeps accepts (config_of l.node.running.store) l.node.running.id (files_of left)
-      (chain_of l.node.running ++ stored_of made) (after_entries made (state_of l.node.running))
+    (chain_of l.node.running ++ stored_of made) (after_entries made (state_of l.node.running))
     → Reopened c accepts id l node made
 reopened c accepts id l node left made config named is keeps =
     let chain = chain_of l.node.running ++ stored_of made in
     let core = after_entries made (state_of l.node.running) in
     let here : Keeps accepts c id (files_of left) chain core =
-        subst (λ (i : ℕ). Keeps accepts c i (files_of left) chain core) named
-        (subst (λ (c' : Config). Keeps accepts c' l.node.running.id (files_of left) chain core) config keeps) in
+    subst (λ (i : ℕ). Keeps accepts c i (files_of left) chain core) named
+    (subst (λ (c' : Config). Keeps accepts c' l.node.running.id (files_of left) chain core) config keeps) in
     let found = is.finds chain core here in
     record {
       chain = found.chain;
@@ -151,8 +151,8 @@ module _ (at next : Lodging) (old mid new : World) (place : ℕ) (member : Membe
   nodes_are =
       ap (λ (n : worlds.Node Core). worlds.with_node n (map (node_of old.config at) old.members.items)) node_is
       ∙ with_node_becomes old.config at next old.members.items place member crashed.moved (Some crashed.node)
-        sound.ids has crashed.id
-        (subst (λ (i : ℕ). Becomes at next i (Some crashed.node)) (sym crashed.id) crashed.becomes)
+      sound.ids has crashed.id
+      (subst (λ (i : ℕ). Becomes at next i (Some crashed.node)) (sym crashed.id) crashed.becomes)
       ∙ ap (λ (c : Config). map (node_of c next) (slice_set old.members.items place crashed.moved)) (sym config_is)
       ∙ ap (map (node_of new.config next)) (sym members_are)
 
@@ -161,7 +161,7 @@ module _ (at next : Lodging) (old mid new : World) (place : ℕ) (member : Membe
 
   world_is : (later : List Outcome)
       → worlds.world_stopped core_setting (world_of at old later) (node_with member l) made
-        ≡ world_of next new later
+      ≡ world_of next new later
   world_is later =
       same_model _ _ _ _ _ _ _ _ _ _ later (sym config_is) (sym (crashed.byzantine ∙ between.byzantine)) nodes_are
       (ap (λ (es : Vec SentEntry Global). map entry_of es.items)
@@ -170,9 +170,9 @@ module _ (at next : Lodging) (old mid new : World) (place : ℕ) (member : Membe
 
   says_stopped : (later : List Outcome)
       → Turned
-        (says (stopped_text old.outside.number member.id)
-        (worlds.world_stopped core_setting (world_of at old later) (node_with member l) made))
-        (string_bytes old.outside.text) (string_bytes new.outside.text) (world_of next new later) None
+      (says (stopped_text old.outside.number member.id)
+      (worlds.world_stopped core_setting (world_of at old later) (node_with member l) made))
+      (string_bytes old.outside.text) (string_bytes new.outside.text) (world_of next new later) None
   says_stopped later =
       record {
         printed = crashed.text
@@ -208,7 +208,7 @@ pub stopped_in : (c : Config) (seat : Seat) (l failed node : Lodged) (event : Ev
 stopped_in c seat l failed node event after image left seated is crash opens =
     let signed = signed_in l failed event seat after (Err fault_of.Disk) seated.runs is in
     let leaves = signed.takes.leaves refl seated.holds (accepts_of after) (λ t sig h. h) (files_of left)
-        crash.may_be in
+    crash.may_be in
     let cut = leaves.front.cut in
     record {
       cut = cut;
@@ -223,9 +223,9 @@ stopped_in c seat l failed node event after image left seated is crash opens =
 turn_stopped : (number : ℕ) (at : Lodging) (old : World) (later : List Outcome) (node : worlds.Node Core) (id : ℕ)
     (event : Event) (seat after : Seat) (cut : ℕ) → node.armed ≡ true
     → says (stopped_text number node.id)
-      (worlds.world_stopped_in core_setting (world_of at old later) node event cut)
-      ≡ event_turn core_setting number
-        (world_of at old (outcomes_of (StopsIn id event seat after cut ∷ []) ++ later)) node event
+    (worlds.world_stopped_in core_setting (world_of at old later) node event cut)
+    ≡ event_turn core_setting number
+    (world_of at old (outcomes_of (StopsIn id event seat after cut ∷ []) ++ later)) node event
 unfolding event_turn
 turn_stopped number at old later node id event seat after cut armed = rw armed refl
 
@@ -239,7 +239,7 @@ pub event_stopped : (at next : Lodging) (old mid new : World) (place : ℕ) (mem
     → IsOpenedOn (setup_of old.config member.id) (accepts_of after) crashed.left crashed.node
     → StoppedIn old.config (seat_of old member.id) l crashed.node event after
     → Plays at next old new
-      (λ w. event_turn core_setting old.outside.number w (node_of old.config at member) event) None
+    (λ w. event_turn core_setting old.outside.number w (node_of old.config at member) event) None
 event_stopped at next old mid new place member l failed event after sound has armed there is reached_it between
     crashed opens stopped =
     let seat = seat_of old member.id in
@@ -249,15 +249,17 @@ event_stopped at next old mid new place member l failed event after sound has ar
     let first = take cut (making member.id seat l event) in
     let again = stopped.again in
     let reopens : Reopens old.config after Keep failed node =
-        record {
-          disk = crashed.left;
-          left = crashed.crash.image_is;
-          opened = subst (λ (i : ℕ). IsOpenedOn (setup_of old.config i) (accepts_of after) crashed.left node)
-              (sym opens.id) opens;
-        } in
+    record {
+      disk = crashed.left;
+      left = crashed.crash.image_is;
+      opened = subst (λ (i : ℕ). IsOpenedOn (setup_of old.config i) (accepts_of after) crashed.left node)
+          (sym opens.id) opens;
+    } in
     record {
       moves = move ∷ [];
-      made = (next, record {
+      made = (
+        next,
+        record {
           old = l;
           failed = failed;
           new = node;
@@ -267,7 +269,9 @@ event_stopped at next old mid new place member l failed event after sound has ar
           reopens = reopens;
           left = record { chain = again.chain; state = again.state; seals = stopped.seals };
           becomes = crashed.becomes;
-        }, alike_self next);
+        },
+        alike_self next,
+      );
       config = config_is at next old mid new place member l after failed.disk Keep first sound has between crashed
           stopped.seals again;
       so = λ later.
@@ -275,8 +279,8 @@ event_stopped at next old mid new place member l failed event after sound has ar
           None
           (turn_stopped old.outside.number at old later (node_with member l) member.id event seat after cut armed
           ∙ ap (λ (n : worlds.Node Core). event_turn core_setting old.outside.number
-            (world_of at old (outcomes_of (move ∷ []) ++ later)) n event)
-            (sym (node_there old.config at member l there)))
+          (world_of at old (outcomes_of (move ∷ []) ++ later)) n event)
+          (sym (node_there old.config at member l there)))
           (says_stopped at next old mid new place member l after failed.disk Keep first sound has between crashed
           stopped.seals again later);
       decided = λ quiet none.
@@ -317,17 +321,17 @@ pub stop_played : (at next : Lodging) (old new : World) (place : ℕ) (member : 
     → (crashed : Crashes at next old new place member l.disk image)
     → Reopened old.config (accepts_of old.outside.seat) member.id l crashed.node []
     → Plays at next old new
-      (λ w. stop_turn core_setting old.outside.number w (node_of old.config at member)) None
+    (λ w. stop_turn core_setting old.outside.number w (node_of old.config at member)) None
 stop_played at next old new place member l image sound has there crashed again =
     let seat = old.outside.seat in
     let node = crashed.node in
     let reopens : Reopens old.config seat image l node =
-        record {
-          disk = crashed.left;
-          left = crashed.crash.image_is;
-          opened = subst (λ (i : ℕ). IsOpenedOn (setup_of old.config i) (accepts_of seat) crashed.left node)
-              (sym crashed.opened.id) crashed.opened;
-        } in
+    record {
+      disk = crashed.left;
+      left = crashed.crash.image_is;
+      opened = subst (λ (i : ℕ). IsOpenedOn (setup_of old.config i) (accepts_of seat) crashed.left node)
+          (sym crashed.opened.id) crashed.opened;
+    } in
     record {
       moves = StopsNow member.id image seat ∷ [];
       made = (next, (l, node, there, reopens, crashed.becomes), alike_self next);

@@ -86,14 +86,15 @@ IsArmedAt before after id call image =
 abbrev pub making : ℕ → Seat → Lodged → Event → List Entry
 making id seat l event = step_from (keys_of seat.seals id) l.node.running event
 
--- It is found again as these entries of a step left it, but for the vote messages that it kept, and what they signed
--- is sealed.
+-- It is found again as these entries of a step left it, but for the vote messages that it kept, and what they
+-- signed is sealed.
 pub record IsFoundAfter (id : ℕ) (made : List Entry) (seat seat_then : Seat) (old new : Lodged) : Type 0 where
   pub chain : chain_of new.node.running ≡ chain_of old.node.running ++ stored_of made
   pub state : state_of new.node.running ≡ after_opening (after_entries made (state_of old.node.running))
   pub seals : seat_then.seals ≡ seat.seals ++ seals_of id (statements_of made)
 
--- A node's disk stopped in an event, after so many entries of its step, and it is opened again on what it left.
+-- A node's disk stopped in an event, after so many entries of its step, and it is opened again on what it
+-- left.
 pub record StopsAfter (c : Config) (before after : Lodging) (id : ℕ) (event : Event) (seat seat_then : Seat)
     (cut : ℕ) : Type 0 where
   pub old : Lodged

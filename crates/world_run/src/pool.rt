@@ -88,7 +88,8 @@ fn is_done(id: ReqId, done: &[Done]) -> bool
 
 /// Drops the requests that were delivered.
 pub(crate) fn settle(pool: &mut Vec<Request>, done: &[Done])
-    ensures { (delivered : Items SomeRequest) → flat_map (λ (block : SomeDone). block.ids) done.now ≡ map (λ r. r.id) delivered → pool.new.items ≡ settled delivered pool.old.items }
+    ensures { (delivered : Items SomeRequest) → flat_map (λ (block : SomeDone). block.ids) done.now
+        ≡ map (λ r. r.id) delivered → pool.new.items ≡ settled delivered pool.old.items }
 {
     pool.retain(|request| !is_done(request.id, done));
 }

@@ -59,4 +59,4 @@ returns-in_ok-show-in-Running-clause-plays g c =
     (λ (v : Model). at_node w.outside.number v c.args.node (λ (found : worlds.Node Core). show_turn w.outside.number v found c.args.number)) None read.keeps reads
     (read_looks w.config at next stands.member.id here.node here.there reads)
     (λ later. sym (at_running at w later w.outside.number c.args.node c.in-Running.place (λ (found : worlds.Node Core). show_turn w.outside.number (world_of at w later) found c.args.number) stands))
-    (λ later. read.turned later stands.member stands.there)
+    (λ later. read.turned stands.member stands.there later)

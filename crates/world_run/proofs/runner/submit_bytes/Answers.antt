@@ -22,4 +22,4 @@ returns-in_ok-submit-in-Running-clause-says c = λ at later.
     let stands = where_running c.args.node w.members.items c.in-Running.place (sym c.in-Running.ensures) in
     Turned-same _ _ _ _ _ _
     (sym (at_running at w later w.outside.number c.args.node c.in-Running.place (λ (found : worlds.Node Core). submit_turn w.outside.number c.args.word.now (world_of at w later) found c.args.bytes.now) stands))
-    (c.in_ok-submit-in-Running.ensures.turned at later stands.member stands.there)
+    (c.in_ok-submit-in-Running.ensures.turned at stands.member stands.there later)

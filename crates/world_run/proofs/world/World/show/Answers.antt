@@ -8,7 +8,7 @@ use Rattle.world_run.proofs.SubmitLemmas.{read_is}
 use Rattle.world_run.proofs.world.World.show.Goals as goal
 
 pub returns-in_ok-put_refused-in-Ok-None-clause-turned : goal.returns-in_ok-put_refused-in-Ok-None-clause-turned
-returns-in_ok-put_refused-in-Ok-None-clause-turned g c = λ later member has.
+returns-in_ok-put_refused-in-Ok-None-clause-turned g c = λ member has later.
     let at = g.N.Nodes.at c.args.nodes.now in
     let w = c.args.self.now in
     shown_none at w later c.args.number member _
@@ -16,7 +16,7 @@ returns-in_ok-put_refused-in-Ok-None-clause-turned g c = λ later member has.
     c.in_ok-put_refused-in-Ok-None.ensures
 
 pub returns-in_ok-put_show-in-Ok-Some-clause-turned : goal.returns-in_ok-put_show-in-Ok-Some-clause-turned
-returns-in_ok-put_show-in-Ok-Some-clause-turned g c = λ later member has.
+returns-in_ok-put_show-in-Ok-Some-clause-turned g c = λ member has later.
     let at = g.N.Nodes.at c.args.nodes.now in
     let w = c.args.self.now in
     let stored : Block × Proof = (c.in-Ok-Some.block, c.in-Ok-Some.proof) in
