@@ -13,5 +13,5 @@ HasMember w place = (member : Member) × (slice_get w.members.items place ≡ So
 
 -- one that runs
 abbrev pub HasRunning : World → ℕ → Type 0
-HasRunning w place = (member : Member) × (slice_get w.members.items place ≡ Some member)
-    × (member.runs ≡ true)
+HasRunning w place =
+    (member : Member) × (slice_get w.members.items place ≡ Some member) × (member.runs ≡ true)

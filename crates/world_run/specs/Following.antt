@@ -54,8 +54,9 @@ pub record Follows (old new : World) (place : ℕ) (member : Member) (out : Out)
   pub id : moved.id ≡ member.id
   pub runs : moved.runs ≡ member.runs
   pub armed : moved.armed ≡ member.armed
-  pub pool : (delivered : List Request) → flat_map (λ (block : Done). block.ids) out.done ≡ map (λ r. r.id)
-      delivered → moved.pool.items ≡ settled delivered member.pool.items
+  pub pool : (delivered : List Request)
+      → flat_map (λ (block : Done). block.ids) out.done ≡ map (λ r. r.id) delivered
+      → moved.pool.items ≡ settled delivered member.pool.items
   pub members : new.members.items ≡ slice_set old.members.items place moved
   pub config : new.config ≡ old.config
   pub seat : new.outside.seat ≡ old.outside.seat
@@ -68,8 +69,8 @@ pub record Follows (old new : World) (place : ℕ) (member : Member) (out : Out)
 -- What a crash leaves of a disk: the image in force.
 pub record IsLeftOf (image : Image) (old new : MemDisk) : Type 0 where
   pub image_is : IsCrashOf image old new
-  pub may_be : (file : ℕ) → file < 3 → MayLeave (now (states old.history) file)
-      (now (states new.history) file).reads
+  pub may_be : (file : ℕ) → file < 3
+      → MayLeave (now (states old.history) file) (now (states new.history) file).reads
 
 -- A node is opened again on what a crash leaves of this disk. Its member is stopped, and its pool is lost.
 pub record Crashes (before after : Lodging) (old new : World) (place : ℕ) (member : Member) (disk : MemDisk)
@@ -90,13 +91,13 @@ pub record Crashes (before after : Lodging) (old new : World) (place : ℕ) (mem
   pub network : new.outside.network ≡ old.outside.network
   pub seals : new.outside.seat.seals ≡ old.outside.seat.seals
   pub number : new.outside.number ≡ old.outside.number
-  pub text : string_bytes new.outside.text ≡ string_bytes old.outside.text ++ stopped_text old.outside.number
-      member.id
+  pub text : string_bytes new.outside.text
+      ≡ string_bytes old.outside.text ++ stopped_text old.outside.number member.id
 
 -- What an event of a node comes to: the turn of the model.
 pub record TakesEvent (at next : Lodging) (old new : World) (member : Member) (event : Event)
     (ending : Option Ending) : Type 0 where
   pub sound : IsSound next new
-  pub plays : Plays at next old new (λ w. event_turn core_setting old.outside.number w
-      (node_of old.config at member) event) ending
+  pub plays : Plays at next old new
+      (λ w. event_turn core_setting old.outside.number w (node_of old.config at member) event) ending
   pub number : new.outside.number ≡ old.outside.number

@@ -51,11 +51,10 @@ Says old new turn ending =
 -- Where the text is this and then these blocks, it is told that the limit is kept, or the run ends.
 abbrev pub TellsLimit : World → World → Option Ending → Type 0
 TellsLimit old new ending =
-    (at : Lodging) (later : List Outcome) (before blocks : List ℕ) → string_bytes old.outside.text ≡ before
-    ++ blocks
+    (at : Lodging) (later : List Outcome) (before blocks : List ℕ)
+    → string_bytes old.outside.text ≡ before ++ blocks
     → Turned (within_limit old.outside.number blocks (world_of at old later)) before
-    (string_bytes new.outside.text)
-    (world_of at new later) ending
+    (string_bytes new.outside.text) (world_of at new later) ending
 
 -- what became of a range, where a turn goes on with so many deliveries
 abbrev pub Delivers : {W : Type 0} → ((ℕ → W → Turn W) → Turn W) → List ℕ → List ℕ → W → Delivered → Type 0

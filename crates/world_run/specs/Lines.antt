@@ -63,20 +63,22 @@ pub record PlaysLine (at next : Lodging) (old new : Option World) (command : Com
   pub config : Config
   pub moves : List Move
   pub made : AreMoves config at next moves
-  pub turned : (later : List Outcome) → Turned (turn (stage_at at old (outcomes_of moves ++ later))) before
-      after (stage_at next new later) ending
+  pub turned : (later : List Outcome)
+      → Turned (turn (stage_at at old (outcomes_of moves ++ later))) before after (stage_at next new later)
+      ending
   pub decided : decides command → IsDecided old → (outcomes_of moves ≡ []) × IsDecided new
 
 -- a line of this number plays its command
 abbrev pub PlaysCommand : ℕ → Command → Lodging → Lodging → Option World → Option World → List ℕ → List ℕ
     → Option Ending → Type 0
 PlaysCommand number command at next old new before after ending =
-    PlaysLine at next old new command (λ stage. stage_turn core_setting stage number command) before after
-    ending
+    PlaysLine at next old new command (λ stage. stage_turn core_setting stage number command)
+    before after ending
 
 -- a `stop-at` line about a node that runs leaves its disk armed
 abbrev pub ArmsBy : Lodging → Lodging → Option World → Command → Type 0
-ArmsBy at next (Some w) (StopAt id call image) = (place : ℕ) → whereabouts_of id w.members.items ≡ Running
-    place → IsArmedAt at next id call (image_of image)
+ArmsBy at next (Some w) (StopAt id call image) =
+    (place : ℕ) → whereabouts_of id w.members.items ≡ Running place
+    → IsArmedAt at next id call (image_of image)
 ArmsBy at next (Some w) command = Unit {0}
 ArmsBy at next None command = Unit {0}

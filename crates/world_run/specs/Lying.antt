@@ -40,8 +40,7 @@ prepare_of subject v =
       config = subject.config;
       view = v;
       number = subject.number;
-      digest =
-          subject.digest;
+      digest = subject.digest;
     })
 
 abbrev pub statement_of : Subject → ℕ → List ℕ
@@ -53,7 +52,6 @@ commit_of subject v sig =
       config = subject.config;
       view = v;
       number = subject.number;
-      digest =
-          subject.digest;
+      digest = subject.digest;
       sig = sig;
     })

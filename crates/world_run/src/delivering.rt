@@ -223,7 +223,8 @@ impl World {
     /// Whether an entry waits for its receiver.
     fn waits(&self, only: &Option<List<u32>>, entry: &Entry) -> bool
         ensures { (lodged : Lodging) (later : Items Outcome)
-            → result ≡ worlds.is_waiting (world_of lodged self.now later).nodes only.now (entry_of entry.now) }
+            → result ≡ worlds.is_waiting (world_of lodged self.now later).nodes only.now
+            (entry_of entry.now) }
     {
         !entry.came && is_named(only, entry) && self.is_running(entry.to)
     }

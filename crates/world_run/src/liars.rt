@@ -300,7 +300,8 @@ impl World {
         ensures sig { IfOk result (λ sig. sig ≡ sig_at id (length self.old.outside.seat.seals)) }
         ensures fits { IfOk result FitsSig }
         ensures world { OnOk result ((lodged : Lodging) (later : Items Outcome)
-            → world_of lodged self.new later ≡ with_signed (world_of lodged self.old later) id statement.now) }
+            → world_of lodged self.new later
+            ≡ with_signed (world_of lodged self.old later) id statement.now) }
         ensures keeps { OnOk result (KeepsNodes self.old self.new) }
         ensures text { OnOk result (self.new.outside.text ≡ self.old.outside.text) }
     {

@@ -81,7 +81,8 @@ pub(crate) fn offer(alloc: Global, pool: &[Request]) -> Result<List<Request>, No
 
 /// Whether a request of this id was delivered.
 fn is_done(id: ReqId, done: &[Done]) -> bool
-    ensures { result ≡ list_any (λ (block : SomeDone). list_any (λ other. id_eq other id) block.ids) done.now }
+    ensures { result
+        ≡ list_any (λ (block : SomeDone). list_any (λ other. id_eq other id) block.ids) done.now }
 {
     done.iter().any(|block| block.ids.as_slice().contains(&id))
 }

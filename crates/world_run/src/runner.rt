@@ -51,8 +51,8 @@ impl<N: Nodes> Runner<N> {
     /// A runner before the first genesis, over no nodes.
     pub fn new(alloc: Global, nodes: N) -> Runner<N>
         requires { IsEmpty (N.at nodes) }
-        ensures world { (later : Items Outcome) → stage_at (N.at result.nodes) result.world later ≡ stage_at
-            (N.at nodes) None later }
+        ensures world { (later : Items Outcome)
+            → stage_at (N.at result.nodes) result.world later ≡ stage_at (N.at nodes) None later }
         ensures standing { IsStanding (N.at result.nodes) result.world }
         ensures decided { IsDecided result.world }
     {
@@ -134,7 +134,8 @@ impl<N: Nodes> Runner<N> {
         ensures ends { IfOk result (λ ending. IfSome ending EndsTurn) }
         ensures plays { IfOk result (PlaysCommand number command (N.at self.old.nodes) (N.at self.new.nodes)
             self.old.world self.new.world (string_bytes text.old) (string_bytes text.new)) }
-        ensures arms { OnOk result (ArmsBy (N.at self.old.nodes) (N.at self.new.nodes) self.old.world command) }
+        ensures arms { OnOk result (ArmsBy (N.at self.old.nodes) (N.at self.new.nodes)
+            self.old.world command) }
     {
         let Some(world) = &mut self.world else {
             return self.begin(number, command, text);

@@ -193,8 +193,9 @@ impl World {
     ) -> Result<(), NoMemory>
         requires genesis { IsGenesisConfig self.old.config }
         requires free { N.at nodes.old id ≡ None }
-        ensures opens { OnOk result ((l : Lodged) × IsOpenedOn (setup_of self.old.config id)
-            (accepts_of self.old.outside.seat) disk l × Becomes (N.at nodes.old) (N.at nodes.new) id (Some l)) }
+        ensures opens { OnOk result ((l : Lodged)
+            × IsOpenedOn (setup_of self.old.config id) (accepts_of self.old.outside.seat) disk l
+            × Becomes (N.at nodes.old) (N.at nodes.new) id (Some l)) }
         ensures config { OnOk result (self.new.config ≡ self.old.config) }
         ensures byzantine { OnOk result (self.new.byzantine ≡ self.old.byzantine) }
         ensures members { OnOk result (self.new.members ≡ self.old.members) }
