@@ -9,7 +9,6 @@ use Rattle.std.proofs.lemmas.Option.{same_Some}
 use Rattle.bft_wire.specs.Reading.{message_in}
 use Rattle.bft_wire.specs.Spelling.{message_text}
 use Rattle.bft_wire.specs.declared.message.Message.{Message}
-use Rattle.block_ledger.specs.Ledgers.{blocks_of}
 use Rattle.view_model.specs.Letters.{PrePrepare}
 use Rattle.node_model.specs.Cores.{Core}
 use Rattle.ord_types.specs.Members.{is_in}
@@ -27,7 +26,7 @@ use Rattle.world_model.specs.Texts.{lied_text}
 use Rattle.world_model.specs.Cores.{core_setting}
 use Rattle.world_model.specs.Worlds as worlds
 use Rattle.bft_node.specs.Lodgings.{Lodging}
-use Rattle.bft_node.specs.Running.{place_of}
+use Rattle.bft_node.specs.Running.{chain_of, place_of}
 use Rattle.bft_node.specs.declared.lodged.Lodged.{Lodged}
 use Rattle.bft_node.specs.declared.member.Node.{Node}
 use Rattle.world_run.specs.Entries.{entry_of}
@@ -98,7 +97,7 @@ pub node_there : (o : Option Lodged) (node : Node) → option_map (λ (l : Lodge
 node_there None node is = absurd (cc)
 node_there (Some l) node is = (l, refl, same_Some l.node node is)
 
-ledger_there : (o : Option Lodged) (node : Node) → option_map (λ (l : Lodged). l.node) o ≡ Some node → ledger_in o ≡ blocks_of node.running.store.ledger
+ledger_there : (o : Option Lodged) (node : Node) → option_map (λ (l : Lodged). l.node) o ≡ Some node → ledger_in o ≡ chain_of node.running
 ledger_there o node is =
     let found = node_there o node is in
     rw (found.1, found.2) refl
@@ -136,7 +135,7 @@ chosen_other a b first other one two less =
 -- the first one has at least as long a ledger as the longest of those behind it
 pub longest_first : (c : Config) (at : Lodging) (members : List Member) (member : Member) (other a b : ℕ) (one two : Node) → 1 ≤ length members → member ≡ get_or members 0 member → AllByRecursion (IsMemberAt at) members
     → IsLongest c at (behind members) (Some other) → option_map (λ (l : Lodged). l.node) (at member.id) ≡ Some one → option_map (λ (l : Lodged). l.node) (at other) ≡ Some two
-    → a ≡ length (blocks_of one.running.store.ledger) → b ≡ length (blocks_of two.running.store.ledger) → b ≤ a → IsLongest c at members (Some member.id)
+    → a ≡ length (chain_of one.running) → b ≡ length (chain_of two.running) → b ≤ a → IsLongest c at members (Some member.id)
 longest_first c at [] member other a b one two some is all behind here there first second less = absurd (omega arith)
 longest_first c at (m ∷ members) member other a b one two some is all so here there first second less =
     let behind : IsLongest c at members (Some other) = subst (λ (rest : List Member). IsLongest c at rest (Some other)) (behind_is m members) so in
@@ -148,7 +147,7 @@ longest_first c at (m ∷ members) member other a b one two some is all so here 
 -- or it has not
 pub longest_other : (c : Config) (at : Lodging) (members : List Member) (member : Member) (other a b : ℕ) (one two : Node) → 1 ≤ length members → member ≡ get_or members 0 member
     → IsLongest c at (behind members) (Some other) → option_map (λ (l : Lodged). l.node) (at member.id) ≡ Some one → option_map (λ (l : Lodged). l.node) (at other) ≡ Some two
-    → a ≡ length (blocks_of one.running.store.ledger) → b ≡ length (blocks_of two.running.store.ledger) → a < b → IsLongest c at members (Some other)
+    → a ≡ length (chain_of one.running) → b ≡ length (chain_of two.running) → a < b → IsLongest c at members (Some other)
 longest_other c at [] member other a b one two some is behind here there first second less = absurd (omega arith)
 longest_other c at (m ∷ members) member other a b one two some is so here there first second less =
     let behind : IsLongest c at members (Some other) = subst (λ (rest : List Member). IsLongest c at rest (Some other)) (behind_is m members) so in

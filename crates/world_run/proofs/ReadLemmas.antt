@@ -61,7 +61,7 @@ seated_read c accepts id old new read seated =
       config = ap (λ (n : Node). config_of n.running.store) read.node ∙ seated.config;
       holds = subst (λ (n : Node). Holds accepts n.running (now (states new.disk.history))) (sym read.node)
           (subst (λ (moments : List State). Holds accepts old.node.running (now moments))
-          (sym (ap states read.history)) seated.holds);
+          (sym read.disk.states_same) seated.holds);
     }
 
 node_read : (c : Config) (before after : Lodging) (id : ℕ) (old new : Lodged) (member : Member)

@@ -213,7 +213,7 @@ stopped_in c seat l failed node event after image left seated is crash opens =
     record {
       cut = cut;
       seals = ap (λ (s : Seat). s.seals) signed.seat
-          ∙ ap (λ (statements : List (List ℕ)). seat.seals ++ seals_of seat.id statements) leaves.statements;
+          ∙ ap (λ (statements : List (List ℕ)). seat.seals ++ seals_of seat.id statements) leaves.signed;
       again =
           reopened c (accepts_of after) seat.id l node left (take cut (making seat.id seat l event)) seated.config
           seated.named opens leaves.front.keeps;
