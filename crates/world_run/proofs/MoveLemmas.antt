@@ -14,8 +14,6 @@ use Rattle.script_play.specs.declared.ending.Ending.{Ending}
 use Rattle.signer_edge.specs.Accepts.{Accepts}
 use Rattle.signer_edge.specs.Signing.{KeepsAccepted}
 use Rattle.block_ledger.proofs.Linking.{chain_stays}
-use Rattle.gate_log.specs.Disk.{now}
-use Rattle.gate_log.specs.History.{states}
 use Rattle.world_model.specs.Worlds.{Outcome}
 use Rattle.bft_node.specs.Lodgings.{Becomes, HoldsIn, Lodging, StaysAlike, accepts_of}
 use Rattle.bft_node.specs.Running.{chain_of}

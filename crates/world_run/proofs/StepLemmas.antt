@@ -45,8 +45,8 @@ use Rattle.world_model.specs.Texts.{fact_text}
 use Rattle.world_model.specs.Turns.{event_goes, event_turn, within_limit}
 use Rattle.world_model.specs.Worlds as worlds
 use Rattle.world_model.specs.Worlds.{Outcome, requests_of, seals_of, sent_by}
-use Rattle.bft_node.specs.Lodgings.{Becomes, HoldsIn, IsStepOf, Lodging, accepts_of}
-use Rattle.bft_node.specs.Making.{done_in, done_of, sends_of, sent_of, text_of}
+use Rattle.bft_node.specs.Lodgings.{Becomes, IsStepOf, Lodging, accepts_of}
+use Rattle.bft_node.specs.Making.{done_of, sends_of, sent_of, text_of}
 use Rattle.bft_node.specs.Running.{chain_of, state_of}
 use Rattle.bft_node.specs.declared.live.Done.{Done}
 use Rattle.bft_node.specs.declared.live.Out.{Out}
