@@ -9,7 +9,7 @@ use Rattle.gate_log.specs.declared.fault.LogFault.{LogFault}
 use Rattle.gate_log.specs.declared.fault.LogFault.TheVariants as log_of
 use Rattle.gate_log.proofs.Going.{last_of, then_went, went_to}
 use Rattle.signer_edge.specs.Accepts.{Accepts}
-use Rattle.bft_wal.specs.Opening.{OpensAsBefore as LogAsBefore, StoreOpensTo as LogOpensTo, opens_as}
+use Rattle.bft_wal.specs.Opening.{OpensAsBefore as LogAsBefore, RecordsOpenTo, opens_as}
 use Rattle.bft_wal.specs.declared.record.WalRecord.{WalRecord}
 use Rattle.block_ledger.specs.Ledgers.{StandsAsBefore}
 use Rattle.bft_node.specs.Crashes.{Image}
@@ -83,7 +83,7 @@ told_err accepts c before (Err other) fault is told = subst (λ (f : OpenFault).
 
 -- the fault of a log behind a ledger that has none
 pub log_told : (accepts : Accepts) (c : Config) (before : State) (opens : Result (List WalRecord) ℕ) (fault : LogFault) → HasChain accepts c before → opens ≡ opens_as (before 0).reads
-    → LogOpensTo opens (Err fault) → StoreOpensTo accepts c before (Err (log_fault fault))
+    → RecordsOpenTo opens (Err fault) → StoreOpensTo accepts c before (Err (log_fault fault))
 log_told accepts c before opens (log_of.Foreign at) chain is told = inr (refl, chain, sym is ∙ told)
 log_told accepts c before opens (log_of.TooLong n) chain is told = told
 log_told accepts c before opens log_of.NoMemory chain is told = tt

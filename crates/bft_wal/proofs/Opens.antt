@@ -7,7 +7,7 @@ use Rattle.gate_log.specs.Format.{gate_after, opened_as, reading}
 use Rattle.gate_log.specs.Front.{IsReadOrNew, entries_before}
 use Rattle.gate_log.specs.Runs.{Leaves}
 use Rattle.gate_log.specs.Settled.{IsWithOrWithout as IsLogWithOrWithout}
-use Rattle.gate_log.specs.Opening.{OpenAnswers as LogOpenAnswers, RecordsOpenTo as LogOpensTo}
+use Rattle.gate_log.specs.Opening.{OpenAnswers as LogOpenAnswers, LogOpensTo}
 use Rattle.gate_log.specs.declared.fault.LogFault.{LogFault}
 use Rattle.gate_log.specs.declared.fault.LogFault.TheVariants.{TooLong, Foreign as ForeignFile, NoMemory, Failed}
 use Rattle.gate_log.specs.declared.reading.Reading.{Reading}

@@ -13,7 +13,7 @@ use Rattle.ord_types.proofs.Laws.{one_spelling}
 use Rattle.ord_types.proofs.ValueLaws.{config_law}
 use Rattle.gate_log.specs.Disk.{File, State, MayLeave, Synced, now, synced_file}
 use Rattle.gate_log.specs.Format.{opened_as, reading}
-use Rattle.gate_log.specs.Opening.{OpensAsBefore, LedgerOpensTo as LogOpensTo}
+use Rattle.gate_log.specs.Opening.{OpensAsBefore, LogOpensTo}
 use Rattle.gate_log.specs.Settled.{IsSettled, OnRefusal as OnLogRefusal}
 use Rattle.gate_log.specs.declared.fault.LogFault.{LogFault}
 use Rattle.gate_log.specs.declared.fault.LogFault.TheVariants as fault_in

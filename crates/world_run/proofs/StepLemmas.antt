@@ -7,6 +7,9 @@ use Rattle.std.proofs.Common.{
   Bool,
   true,
   false,
+  cond,
+  ltb,
+  length,
   List,
   [],
   ◌∷◌,
@@ -39,12 +42,12 @@ use Rattle.block_ledger.specs.Chains.{Entry as Stored}
 use Rattle.node_model.specs.declared.event.Event.{Event}
 use Rattle.node_model.specs.Cores.{Core, after_entries}
 use Rattle.node_model.specs.Entries as entries
-use Rattle.node_model.specs.Entries.{Entry, facts_of, posts_of, statements_of, stored_of}
+use Rattle.node_model.specs.Entries.{Entry, deeds_of, facts_of, posts_of, statements_of, stored_of}
 use Rattle.world_model.specs.Cores.{core_keeping, core_setting}
 use Rattle.world_model.specs.Texts.{fact_text}
 use Rattle.world_model.specs.Turns.{event_goes, event_turn, within_limit}
 use Rattle.world_model.specs.Worlds as worlds
-use Rattle.world_model.specs.Worlds.{Outcome, requests_of, seals_of, sent_by}
+use Rattle.world_model.specs.Worlds.{GoesOn, Outcome, outcome_in, requests_of, seals_of, sent_by}
 use Rattle.bft_node.specs.Lodgings.{Becomes, IsStepOf, Lodging, accepts_of}
 use Rattle.bft_node.specs.Making.{done_of, sends_of, sent_of, text_of}
 use Rattle.bft_node.specs.Running.{chain_of, state_of}
@@ -249,6 +252,14 @@ module _ (at next : Lodging) (old mid new : World) (place : ℕ) (member : Membe
   pub number_after : new.outside.number ≡ old.outside.number
   number_after = follows.number ∙ ap (λ (o : Outside). o.number) between.outside
 
+-- an event that goes on does so, whatever its deeds
+either_goes : (b : Bool) → cond b GoesOn GoesOn ≡ GoesOn
+either_goes true = refl
+either_goes false = refl
+
+goes_in : (made : List Entry) → outcome_in made GoesOn ≡ GoesOn
+goes_in made = either_goes (ltb 0 (length (deeds_of made)))
+
 -- with the outcome, where the node is armed
 turn_taken : (b : Bool) (number : ℕ) (at : Lodging) (old : World) (later : List Outcome) (node : worlds.Node Core)
     (id : ℕ) (event : Event) (seat after : Seat) (out : Out) → node.armed ≡ b
@@ -256,7 +267,9 @@ turn_taken : (b : Bool) (number : ℕ) (at : Lodging) (old : World) (later : Lis
     ≡ event_turn core_setting number
     (world_of at old (outcomes_of (Takes id event b seat after out ∷ []) ++ later)) node event
 unfolding event_turn
-turn_taken true number at old later node id event seat after out armed = rw armed refl
+turn_taken true number at old later node id event seat after out armed =
+    let made : List Entry = worlds.making core_setting (world_of at old (GoesOn ∷ later)) node event in
+    rw (armed, goes_in made) refl
 turn_taken false number at old later node id event seat after out armed = rw armed refl
 
 quiet_taken : (b : Bool) (id : ℕ) (event : Event) (seat after : Seat) (out : Out) → b ≡ false

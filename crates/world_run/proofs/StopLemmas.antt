@@ -6,6 +6,12 @@ use Rattle.std.proofs.Common.{
   Vec,
   true,
   false,
+  ltb,
+  zero,
+  suc,
+  ◌≤◌,
+  arith,
+  length,
   List,
   [],
   ◌∷◌,
@@ -40,14 +46,14 @@ use Rattle.signer_edge.proofs.SealFacts.{is_sealed-grown}
 use Rattle.block_ledger.specs.Chains.{Entry as Stored}
 use Rattle.node_model.specs.declared.event.Event.{Event}
 use Rattle.node_model.specs.Cores.{Core, after_entries, after_opening}
-use Rattle.node_model.specs.Entries.{Entry, Opened, statements_of, stored_of}
+use Rattle.node_model.specs.Entries.{Entry, Opened, deeds_of, statements_of, stored_of}
 use Rattle.node_model.proofs.RuleLemmas.{after_append}
 use Rattle.world_model.specs.Cores.{core_keeping, core_setting}
 use Rattle.world_model.specs.Says.{says}
 use Rattle.world_model.specs.Texts.{stopped_text}
 use Rattle.world_model.specs.Turns.{event_turn, stop_turn}
 use Rattle.world_model.specs.Worlds as worlds
-use Rattle.world_model.specs.Worlds.{Outcome, seals_of}
+use Rattle.world_model.specs.Worlds.{Outcome, Stops, seals_of}
 use Rattle.bft_node.specs.Lodgings.{
   Becomes,
   IsOpenedOn,
@@ -198,6 +204,7 @@ module _ (at next : Lodging) (old mid new : World) (place : ℕ) (member : Membe
 -- A DISK THAT STOPPED IN A STEP opens to the first of the step's entries, and what was signed is what these signed.
 pub record StoppedIn (c : Config) (seat : Seat) (l node : Lodged) (event : Event) (after : Seat) : Type 0 where
   pub cut : ℕ
+  pub some : 1 ≤ length (deeds_of (making seat.id seat l event))
   pub seals : after.seals ≡ seat.seals ++ seals_of seat.id (statements_of (take cut (making seat.id seat l event)))
   pub again : Reopened c (accepts_of after) seat.id l node (take cut (making seat.id seat l event))
 
@@ -212,6 +219,7 @@ stopped_in c seat l failed node event after image left seated is crash opens =
     let cut = leaves.front.cut in
     record {
       cut = cut;
+      some = signed.takes.limit;
       seals = ap (λ (s : Seat). s.seals) signed.seat
           ∙ ap (λ (statements : List (List ℕ)). seat.seals ++ seals_of seat.id statements) leaves.signed;
       again =
@@ -219,15 +227,21 @@ stopped_in c seat l failed node event after image left seated is crash opens =
           seated.named opens leaves.front.keeps;
     }
 
+-- a test of what is so
+lt_is : {n : ℕ} → 1 ≤ n → ltb 0 n ≡ true
+lt_is {n = zero} le = absurd (omega (arith, le))
+lt_is {n = suc n} le = refl
+
 -- an armed node takes the outcome
 turn_stopped : (number : ℕ) (at : Lodging) (old : World) (later : List Outcome) (node : worlds.Node Core) (id : ℕ)
     (event : Event) (seat after : Seat) (cut : ℕ) → node.armed ≡ true
+    → ltb 0 (length (deeds_of (worlds.making core_setting (world_of at old (Stops cut ∷ later)) node event))) ≡ true
     → says (stopped_text number node.id)
     (worlds.world_stopped_in core_setting (world_of at old later) node event cut)
     ≡ event_turn core_setting number
     (world_of at old (outcomes_of (StopsIn id event seat after cut ∷ []) ++ later)) node event
 unfolding event_turn
-turn_stopped number at old later node id event seat after cut armed = rw armed refl
+turn_stopped number at old later node id event seat after cut armed some = rw (armed, some) refl
 
 -- AN EVENT IN WHICH THE NODE IS STOPPED
 pub event_stopped : (at next : Lodging) (old mid new : World) (place : ℕ) (member : Member) (l failed : Lodged)
@@ -278,6 +292,7 @@ event_stopped at next old mid new place member l failed event after sound has ar
           Turned-same _ _ (string_bytes old.outside.text) (string_bytes new.outside.text) (world_of next new later)
           None
           (turn_stopped old.outside.number at old later (node_with member l) member.id event seat after cut armed
+          (lt_is stopped.some)
           ∙ ap (λ (n : worlds.Node Core). event_turn core_setting old.outside.number
           (world_of at old (outcomes_of (move ∷ []) ++ later)) n event)
           (sym (node_there old.config at member l there)))
