@@ -117,7 +117,8 @@ impl Both {
 
     fn offers_alike(&mut self) -> Result<bool, NoMemory> {
         let mut serials = Vec::new(self.alloc);
-        for one in self.plain.waiting.as_slice().iter().take(self.plain.offer()) {
+        let size = self.plain.offer();
+        for one in self.plain.waiting.as_slice().iter().take(size) {
             serials.push(one.serial)?;
         }
         Ok(are_serials(&self.pool.offer()?, serials.as_slice()))
