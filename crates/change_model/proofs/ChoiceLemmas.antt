@@ -1,5 +1,5 @@
 -- The order of votes, and the loops of the choice.
-use Rattle.std.proofs.Common.{◌≡◌, ℕ, ◌+◌, ◌≤◌, ◌<◌, Bool, true, false, ◌&&◌, cond, max, List, [], ◌∷◌, ◌++◌, take, drop, length, get_or, refl, sym, ap, subst, ◌∙◌, ◌⊎◌, inl, inr, arith, Option, Some, None}
+use Rattle.std.proofs.Common.{◌≡◌, ℕ, ◌+◌, ◌≤◌, ◌<◌, Bool, true, false, ◌&&◌, cond, max, List, [], ◌∷◌, ◌++◌, take, drop, length, get_or, refl, sym, ap, subst, ◌∙◌, ◌⊎◌, inl, inr, arith, Option, Some, None, append-nil, append_assoc}
 use Rattle.std.specs.Prelude.{◌==◌, nat_le, nat_lt}
 use Rattle.std.specs.Cmp.Lexicographic.{slice_cmp}
 use Rattle.std.specs.Ordering.{is_lt, nat_cmp, ordering_reverse}
@@ -231,7 +231,7 @@ choice_is n x rs = by_best (best_from n x rs None rs) (best_of_rest n x rs [] rs
   where
     by_count : IsBest n x rs rs None → (b : Bool) → nat_le (quorum n) (heard x tells_none rs) ≡ b → IsChoice n x rs (cond b Free Neither)
     by_count is true y = (none_passes n x rs is, leb-true (quorum n) (heard x tells_none rs) y)
-    by_count is false no = (none_passes n x rs is, leb-false (quorum n) (heard x tells_none rs) no)
+    by_count is false low = (none_passes n x rs is, leb-false (quorum n) (heard x tells_none rs) low)
 
     by_best : (best : Option Vote) → IsBest n x rs rs best → IsChoice n x rs (carried_or best (cond (nat_le (quorum n) (heard x tells_none rs)) Free Neither))
     by_best None is = by_count is (nat_le (quorum n) (heard x tells_none rs)) refl

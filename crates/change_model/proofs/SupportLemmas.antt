@@ -1,6 +1,6 @@
 -- What an announced or an entered choice stands on.
-use Rattle.std.proofs.Common.{◌≡◌, ℕ, ◌≤◌, Bool, true, false, ◌&&◌, ◌||◌, not, ◌==◌, cond, List, [], ◌∷◌, length, map, Option, Some, None, refl, sym, ap, ◌∙◌, subst, ◌⊎◌, inl, inr, arith}
-use Rattle.std.specs.Prelude.{◌≢◌, IfSome, IsTrue, is_none, nat_le, tt}
+use Rattle.std.proofs.Common.{◌≡◌, ℕ, ◌+◌, ◌≤◌, ◌<◌, Bool, true, false, ◌&&◌, ◌||◌, not, ◌==◌, cond, List, [], ◌∷◌, length, map, Option, Some, None, refl, sym, ap, ◌∙◌, subst, ◌⊎◌, inl, inr, arith}
+use Rattle.std.specs.Prelude.{◌≢◌, IfSome, IsTrue, is_none, nat_le}
 use Rattle.std.specs.List.{AllByRecursion, cons_option}
 use Rattle.std.proofs.lemmas.Bool.{and_parts, cases_Bool, eqb-true, not-true, not_from_false, or_parts}
 use Rattle.ord_types.specs.Members.{is_in}
@@ -10,6 +10,7 @@ use Rattle.ord_types.specs.declared.values.Choice.TheVariants.{Neither}
 use Rattle.ord_types.specs.declared.values.Config.{Config}
 use Rattle.ord_types.specs.declared.values.Place.{Place}
 use Rattle.ord_types.specs.declared.values.Report.{Report}
+use Rattle.bft_wire.specs.Messages.{AreSigned}
 use Rattle.bft_wire.specs.declared.message.NewView.{NewView}
 use Rattle.bft_wire.specs.declared.message.Signed.{Signed}
 use Rattle.bft_wire.specs.declared.message.ViewData.{ViewData}
@@ -29,7 +30,7 @@ use Rattle.change_model.specs.Answers.{data_invalid, first_reason, heard_news, i
 use Rattle.change_model.specs.Changing.{Changing, fresh, quorum_at}
 use Rattle.change_model.specs.Choices.{choice_of, reports_in, signers_in}
 use Rattle.change_model.specs.Dues.{Turn, announce_due, announce_if, announce_turn, announces, enter_turn, is_collecting, is_later, message_of, own_of, report_for, report_if, reports_for, signed_in, turn_if, waits}
-use Rattle.change_model.specs.Laws.{AnnouncedIsSupported, EnteredIsSupported, HasOwnReports, IsOwnReport, ReportsAreTheirMembers, told_in}
+use Rattle.change_model.specs.Laws.{AnnouncedIsSupported, AscendingAreDifferent, EnteredIsSupported, HasOwnReports, IsOwnReport, ReportsAreTheirMembers, told_in}
 use Rattle.change_model.specs.Past.{Announces, Came, Changes, Data, Enters, Leaves, Moment, Past, Reports, Takes, Waits, changing_in, is_under, is_valid_data, newer_of, report_by, report_in, row_in}
 use Rattle.change_model.specs.Valid.{is_choice}
 use Rattle.change_model.proofs.ChoiceLemmas.{choice_is}
@@ -152,6 +153,9 @@ supported su h c run few i v ss different reports chosen =
     (ap told_height (sym (told_reports ss)), subst (λ (rs : List Report). IsChoice (length c.members) x rs choice) (sym (told_reports ss)) (choice_is (length c.members) x (reports_in ss)))
     (choice_is_made choice chosen)
 
+announce_same : (a b : NewView) (after : Changing) (turn : Turn) → Some (record { act = Announce a; after = after }) ≡ Some turn → turn.act ≡ Announce b → a ≡ b
+announce_same a b after turn e f = cc
+
 -- what is announced
 announced : (place : Place) (w : Changing) (m : NewView) (turn : Turn) → announce_due place w ≡ Some turn → turn.act ≡ Announce m
     → (m.view ≡ w.left) × (m.reports ≡ signed_in (reports_for w.left w.known)) × (is_choice (news_in place m).choice ≡ true)
@@ -167,7 +171,7 @@ announced place w m turn due act = by_collecting (is_collecting place w) due
         → (m.view ≡ w.left) × (m.reports ≡ signed_in rs) × (is_choice (news_in place m).choice ≡ true)
     by_choice false chosen e = absurd (cc)
     by_choice true chosen e =
-        let is : message_of w rs own.news ≡ m = cc in
+        let is : message_of w rs own.news ≡ m = announce_same (message_of w rs own.news) m (announces place w own) turn e act in
         (ap (λ (m : NewView). m.view) (sym is), ap (λ (m : NewView). m.reports) (sym is), subst (λ (m : NewView). is_choice (news_in place m).choice ≡ true) is chosen)
 
     by_count : (b : Bool) → cond b (announce_turn place w rs own) None ≡ Some turn → (m.view ≡ w.left) × (m.reports ≡ signed_in rs) × (is_choice (news_in place m).choice ≡ true)
@@ -182,8 +186,8 @@ pub announced_is_supported : AnnouncedIsSupported
 announced_is_supported su h c run few i place w m turn under different own members due act reports =
     let is = announced place w m turn due act in
     let names : AreDifferent (names_in w.known) = subst (λ (is : List ℕ). AreDifferent is) (sym (own.members ∙ members)) different in
-    let signers : AreDifferent (signers_in m.reports) = subst (λ (ss : List Signed). AreDifferent (signers_in ss)) (sym is.1.0) (signers_different w.left w.known own.reports names) in
-    by_config place.config under signers is.1.1
+    let signers : AreDifferent (signers_in m.reports) = subst (λ (ss : List Signed). AreDifferent (signers_in ss)) (sym is.1) (signers_different w.left w.known own.reports names) in
+    by_config place.config under signers is.2
   where
     by_config : (d : Config) → d ≡ c → AreDifferent (signers_in m.reports)
         → is_choice (choice_of (length d.members) (told_height (reports_in m.reports)) (reports_in m.reports)) ≡ true
@@ -215,7 +219,7 @@ entered place w from m v x choice block None e = by_settled (is_settled place m)
 pub entered_is_supported : EnteredIsSupported
 entered_is_supported su h c run few accepts i place w from m v x choice block under different act reports =
     let is = entered place w from m v x choice block (first_reason (news_reasons accepts place w from m)) act in
-    by_config place.config under v x choice is.0 is.1.0 is.1.1.0 is.1.1.1 reports
+    by_config place.config under v x choice is.0 is.1 is.2 is.3 reports
   where
     by_config : (d : Config) → d ≡ c → (v x : ℕ) (choice : Choice) → m.view ≡ v → told_height (reports_in m.reports) ≡ x
         → choice_of (length d.members) (told_height (reports_in m.reports)) (reports_in m.reports) ≡ choice
@@ -224,3 +228,23 @@ entered_is_supported su h c run few accepts i place w from m v x choice block un
         → IsTrue (is_supported su h i c c.number v x choice)
     by_config d e v x choice view number chose chosen told =
         rw (sym number, sym chose) (rw e (supported su h c run few i v m.reports different told (rw e at chosen)))
+
+-- ASCENDING SIGNERS differ
+
+signer_absent : (i least : ℕ) (ss : List Signed) → i < least → AreSigned least ss → is_in i (signers_in ss) ≡ false
+signer_absent i least [] lt signed = refl
+signer_absent i least (s ∷ ss) lt signed =
+    let above = signed.1 in
+    let here : (s.sig.signer == i) ≡ false = not_same s.sig.signer i (omega arith) in
+    rw here (signer_absent i (s.sig.signer + 1) ss (omega arith) signed.3)
+  where
+    not_same : (a b : ℕ) → b < a → (a == b) ≡ false
+    not_same a b lt = elim (cases_Bool (a == b)) [
+      | inl y ↦ absurd (let e = eqb-true a b y in omega arith)
+      | inr n ↦ n
+    ]
+
+pub ascending_are_different : AscendingAreDifferent
+ascending_are_different least [] signed = tt
+ascending_are_different least (s ∷ ss) signed =
+    (not_from_false (is_in s.sig.signer (signers_in ss)) (signer_absent s.sig.signer (s.sig.signer + 1) ss (omega arith) signed.3), ascending_are_different (s.sig.signer + 1) ss signed.3)

@@ -1,6 +1,6 @@
 -- There is no reason against a message exactly where it is valid.
 use Rattle.std.proofs.Common.{◌≡◌, ℕ, ◌≤◌, ◌<◌, ◌-◌, Bool, true, false, ◌&&◌, ◌||◌, not, ◌==◌, cond, List, [], ◌∷◌, ◌++◌, length, Option, Some, None, refl, sym, ap, ◌∙◌, subst, inl, inr, arith}
-use Rattle.std.specs.Prelude.{◌↔◌, ◌≢◌, All, IfSome, IsTrue, nat_le, nat_lt, tt}
+use Rattle.std.specs.Prelude.{◌↔◌, ◌≢◌, All, IfSome, IsTrue, nat_le, nat_lt, ⊤}
 use Rattle.std.specs.List.{list_all}
 use Rattle.std.proofs.lemmas.Bool.{and_from, and_parts, cases_Bool, eq-eqb, eqb-true, le-leb, leb-true, lt-ltb, ltb-false, ltb-true, not-false, not_from_true, or_parts}
 use Rattle.std.proofs.lemmas.List.Elements.{All-nil, All-cons, All-head, All-tail}
@@ -31,12 +31,20 @@ use Rattle.change_model.specs.Valid.{are_from_start, are_lasts_good, are_signed,
 
 -- A LIST OF REASONS is empty where each test fails
 
-none_parts : (t : Bool) (r : Reason) (rs : Reasons) → first_reason ((t, r) ∷ rs) ≡ None → (t ≡ false) × (first_reason rs ≡ None)
-none_parts true r rs e = absurd (cc)
-none_parts false r rs e = (refl, e)
+abbrev AllFail : Reasons → Type 0
+AllFail [] = ⊤
+AllFail (r ∷ rs) = (r.0 ≡ false) × AllFail rs
 
-none_from : (t : Bool) (r : Reason) (rs : Reasons) → t ≡ false → first_reason rs ≡ None → first_reason ((t, r) ∷ rs) ≡ None
-none_from t r rs e rest = rw e rest
+each_fails : (rs : Reasons) → first_reason rs ≡ None → AllFail rs
+each_fails [] e = tt
+each_fails (r ∷ rs) e = elim (cases_Bool r.0) [
+  | inl y ↦ absurd (let z : Some r.1 ≡ None = rw y at e in cc)
+  | inr n ↦ (n, each_fails rs (rw n at e))
+]
+
+none_stands : (rs : Reasons) → AllFail rs → first_reason rs ≡ None
+none_stands [] h = refl
+none_stands (r ∷ rs) h = rw h.0 (none_stands rs h.1)
 
 -- LISTS
 
@@ -148,27 +156,20 @@ lt_false a b le = elim (cases_Bool (nat_lt a b)) [
 
 pub data_valid : (accepts : Accepts) (place : Place) (w : Changing) (from : ℕ) (m : ViewData) → first_reason (data_invalid accepts place w from m) ≡ None → IsDataHere accepts place w.me from m
 data_valid accepts place w from m e =
-    let p1 = none_parts _ _ _ e in
-    let p2 = none_parts _ _ _ p1.1 in
-    let p3 = none_parts _ _ _ p2.1 in
-    let p4 = none_parts _ _ _ p3.1 in
-    let p5 = none_parts _ _ _ p4.1 in
-    let p6 = none_parts _ _ _ p5.1 in
-    let p7 = none_parts _ _ _ p6.1 in
-    let p8 = none_parts _ _ _ p7.1 in
-    let member = not-false (is_in from place.config.members) p1.0 in
-    let config = config_is (is_raft place.config) place.config.number m.config p2.0 in
-    let sig = and_parts (m.sig.signer == from) (is_report_signed accepts place m.view m.report m.sig) (not-false _ p8.0) in
+    let p : AllFail (data_invalid accepts place w from m) = each_fails (data_invalid accepts place w from m) e in
+    let member = not-false (is_in from place.config.members) p.0 in
+    let config = config_is (is_raft place.config) place.config.number m.config p.1.0 in
+    let sig = and_parts (m.sig.signer == from) (is_report_signed accepts place m.view m.report m.sig) (not-false _ p.1.1.1.1.1.1.1.0) in
     let sender = eqb-true m.sig.signer from sig.0 in
     let signer : is_in m.sig.signer place.config.members ≡ true = subst (λ (i : ℕ). is_in i place.config.members ≡ true) (sym sender) member in
     record {
       bft = config.0;
       config = config.1;
-      collector = eqb-true (collector place m.view) w.me (not-false (collector place m.view == w.me) p5.0);
+      collector = eqb-true (collector place m.view) w.me (not-false (collector place m.view == w.me) p.1.1.1.1.0);
       valid = record {
         sender = sender;
-        report = report_is accepts place m.view (record { report = m.report; sig = m.sig }) (and_from (is_in m.sig.signer place.config.members) (is_report_signed accepts place m.view m.report m.sig) signer sig.1) (ltb-false m.report.height place.start p4.0) (not-false (is_last_good accepts place m.report.height m.report.last) p7.0) (not-false (is_told_below m.view m.report) p3.0);
-        block = block_is m.report.prepared m.block (not-false (is_block_of m.report.prepared m.block) p6.0);
+        report = report_is accepts place m.view (record { report = m.report; sig = m.sig }) (and_from (is_in m.sig.signer place.config.members) (is_report_signed accepts place m.view m.report m.sig) signer sig.1) (ltb-false m.report.height place.start p.1.1.1.0) (not-false (is_last_good accepts place m.report.height m.report.last) p.1.1.1.1.1.1.0) (not-false (is_told_below m.view m.report) p.1.1.0);
+        block = block_is m.report.prepared m.block (not-false (is_block_of m.report.prepared m.block) p.1.1.1.1.1.0);
       };
     }
 
@@ -177,14 +178,17 @@ data_none accepts place w from m h =
     let r = h.valid.report in
     let member : is_in from place.config.members ≡ true = subst (λ (i : ℕ). is_in i place.config.members ≡ true) h.valid.sender r.member in
     let sig : ((m.sig.signer == from) && is_report_signed accepts place m.view m.report m.sig) ≡ true = and_from (m.sig.signer == from) (is_report_signed accepts place m.view m.report m.sig) (eq-eqb m.sig.signer from h.valid.sender) r.signed in
-    none_from _ _ _ (not_from_true (is_in from place.config.members) member)
-    (none_from _ _ _ (config_test (is_raft place.config) place.config.number m.config h.bft h.config)
-    (none_from _ _ _ (not_from_true (is_told_below m.view m.report) (below_test m.view m.report r.prepared r.accepted))
-    (none_from _ _ _ (lt_false m.report.height place.start r.height)
-    (none_from _ _ _ (not_from_true (collector place m.view == w.me) (eq-eqb (collector place m.view) w.me h.collector))
-    (none_from _ _ _ (not_from_true (is_block_of m.report.prepared m.block) (block_test m.report.prepared m.block h.valid.block))
-    (none_from _ _ _ (not_from_true (is_last_good accepts place m.report.height m.report.last) (last_test accepts place m.report.height m.report.last r.height r.last))
-    (none_from _ _ _ (not_from_true _ sig) refl)))))))
+    none_stands (data_invalid accepts place w from m) (
+      ((not_from_true (is_in from place.config.members) member),
+      ((config_test (is_raft place.config) place.config.number m.config h.bft h.config),
+      ((not_from_true (is_told_below m.view m.report) (below_test m.view m.report r.prepared r.accepted)),
+      ((lt_false m.report.height place.start r.height),
+      ((not_from_true (collector place m.view == w.me) (eq-eqb (collector place m.view) w.me h.collector)),
+      ((not_from_true (is_block_of m.report.prepared m.block) (block_test m.report.prepared m.block h.valid.block)),
+      ((not_from_true (is_last_good accepts place m.report.height m.report.last) (last_test accepts place m.report.height m.report.last r.height r.last)),
+      ((not_from_true _ sig),
+      tt))))))))
+    )
 
 pub data_reasons_say_valid : DataReasonsSayValid
 data_reasons_say_valid accepts place w from m = (data_valid accepts place w from m, data_none accepts place w from m)
@@ -203,28 +207,21 @@ choice_test Neither h = absurd (h refl)
 
 news_valid : (accepts : Accepts) (place : Place) (w : Changing) (from : ℕ) (m : NewView) → first_reason (news_reasons accepts place w from m) ≡ None → is_settled place m ≡ true → IsNewsHere accepts place w from m
 news_valid accepts place w from m e settled =
-    let p1 = none_parts _ _ _ e in
-    let p2 = none_parts _ _ _ p1.1 in
-    let p3 = none_parts _ _ _ p2.1 in
-    let p4 = none_parts _ _ _ p3.1 in
-    let p5 = none_parts _ _ _ p4.1 in
-    let p6 = none_parts _ _ _ p5.1 in
-    let p7 = none_parts _ _ _ p6.1 in
-    let p8 = none_parts _ _ _ p7.1 in
-    let config = config_is (is_raft place.config) place.config.number m.config p2.0 in
-    let view = and_parts (may_enter w m.view) (are_told_below m.view m.reports) (not-false _ p3.0) in
+    let p : AllFail (news_reasons accepts place w from m) = each_fails (news_reasons accepts place w from m) e in
+    let config = config_is (is_raft place.config) place.config.number m.config p.1.0 in
+    let view = and_parts (may_enter w m.view) (are_told_below m.view m.reports) (not-false _ p.1.1.0) in
     let enough = and_parts (nat_le (quorum_at place) (length m.reports)) (is_choice (news_in place m).choice) settled in
     record {
-      sender = not-false (is_in from place.config.members) p1.0;
+      sender = not-false (is_in from place.config.members) p.0;
       bft = config.0;
       config = config.1;
       view = view.0;
-      collector = eqb-true (collector place m.view) from (not-false (collector place m.view == from) p5.0);
+      collector = eqb-true (collector place m.view) from (not-false (collector place m.view == from) p.1.1.1.1.0);
       valid = record {
-        reports = reports_are accepts place m.view m.reports (not-false (are_signed accepts place m.view m.reports) p8.0) (not-false (are_from_start place m.reports) p4.0) (not-false (are_lasts_good accepts place m.reports) p7.0) view.1;
+        reports = reports_are accepts place m.view m.reports (not-false (are_signed accepts place m.view m.reports) p.1.1.1.1.1.1.1.0) (not-false (are_from_start place m.reports) p.1.1.1.0) (not-false (are_lasts_good accepts place m.reports) p.1.1.1.1.1.1.0) view.1;
         enough = leb-true (quorum_at place) (length m.reports) enough.0;
         chosen = choice_is_made (news_in place m).choice enough.1;
-        block = block_is (carried_in (news_in place m).choice) m.block (not-false (is_block_of (carried_in (news_in place m).choice) m.block) p6.0);
+        block = block_is (carried_in (news_in place m).choice) m.block (not-false (is_block_of (carried_in (news_in place m).choice) m.block) p.1.1.1.1.1.0);
       };
     }
 
@@ -236,14 +233,17 @@ news_none accepts place w from m h =
     let above : are_from_start place m.reports ≡ true = all_test (λ (s : Signed). nat_le place.start s.report.height) Good (λ s r. le-leb place.start s.report.height r.height) m.reports all in
     let lasts : are_lasts_good accepts place m.reports ≡ true = all_test (λ (s : Signed). is_last_good accepts place s.report.height s.report.last) Good (λ s r. last_test accepts place s.report.height s.report.last r.height r.last) m.reports all in
     let signed : are_signed accepts place m.view m.reports ≡ true = all_test (is_members_report accepts place m.view) Good (λ s r. member_test accepts place m.view s r) m.reports all in
-    none_from _ _ _ (not_from_true (is_in from place.config.members) h.sender)
-    (none_from _ _ _ (config_test (is_raft place.config) place.config.number m.config h.bft h.config)
-    (none_from _ _ _ (not_from_true _ (and_from (may_enter w m.view) (are_told_below m.view m.reports) h.view below))
-    (none_from _ _ _ (not_from_true (are_from_start place m.reports) above)
-    (none_from _ _ _ (not_from_true (collector place m.view == from) (eq-eqb (collector place m.view) from h.collector))
-    (none_from _ _ _ (not_from_true (is_block_of (carried_in (news_in place m).choice) m.block) (block_test (carried_in (news_in place m).choice) m.block h.valid.block))
-    (none_from _ _ _ (not_from_true (are_lasts_good accepts place m.reports) lasts)
-    (none_from _ _ _ (not_from_true (are_signed accepts place m.view m.reports) signed) refl)))))))
+    none_stands (news_reasons accepts place w from m) (
+      ((not_from_true (is_in from place.config.members) h.sender),
+      ((config_test (is_raft place.config) place.config.number m.config h.bft h.config),
+      ((not_from_true _ (and_from (may_enter w m.view) (are_told_below m.view m.reports) h.view below)),
+      ((not_from_true (are_from_start place m.reports) above),
+      ((not_from_true (collector place m.view == from) (eq-eqb (collector place m.view) from h.collector)),
+      ((not_from_true (is_block_of (carried_in (news_in place m).choice) m.block) (block_test (carried_in (news_in place m).choice) m.block h.valid.block)),
+      ((not_from_true (are_lasts_good accepts place m.reports) lasts),
+      ((not_from_true (are_signed accepts place m.view m.reports) signed),
+      tt))))))))
+    )
 
 news_settled : (accepts : Accepts) (place : Place) (w : Changing) (from : ℕ) (m : NewView) → IsNewsHere accepts place w from m → is_settled place m ≡ true
 news_settled accepts place w from m h =

@@ -9,6 +9,7 @@ use Rattle.ord_types.specs.declared.values.Choice.TheVariants.{Neither}
 use Rattle.ord_types.specs.declared.values.Last.{Last}
 use Rattle.ord_types.specs.declared.values.Report.{Report}
 use Rattle.ord_types.specs.declared.values.Vote.{Vote}
+use Rattle.bft_wire.specs.Messages.{AreSigned}
 use Rattle.bft_wire.specs.declared.message.NewView.{NewView}
 use Rattle.bft_wire.specs.declared.message.Signed.{Signed}
 use Rattle.bft_wire.specs.declared.message.ViewData.{ViewData}
@@ -132,3 +133,7 @@ EnteredIsSupported =
     → (heard_news accepts place w from m).act ≡ Enter v x choice block
     → AreReports su h c v (told_in m.reports)
     → IsTrue (is_supported su h i c c.number v x choice)
+
+-- the signers of a NewView that has a spelling are different
+abbrev pub AscendingAreDifferent : Type 0
+AscendingAreDifferent = (least : ℕ) (ss : List Signed) → AreSigned least ss → AreDifferent (signers_in ss)

@@ -1,4 +1,4 @@
-ghost use Rattle.change_model.specs.Laws.{AnnouncedIsSupported, ChoiceIsTheRule, DataReasonsSayValid, EnteredIsSupported, NewsReasonsSayValid, ReportsAreTheirMembers};
+ghost use Rattle.change_model.specs.Laws.{AnnouncedIsSupported, AscendingAreDifferent, ChoiceIsTheRule, DataReasonsSayValid, EnteredIsSupported, NewsReasonsSayValid, ReportsAreTheirMembers};
 
 /// The function that names the choice of a NewView's reports is the rule (Castro and Liskov 2002, on reports that
 /// tell views).
@@ -16,14 +16,18 @@ pub fn reasons_say_valid()
 {}
 
 /// Whatever came, the report that is kept of a member is signed by that member.
-#[tactic(auto, using(crate::proofs::SupportLemmas::reports_are_their_members))]
 pub fn reports_are_their_members()
     ensures { ReportsAreTheirMembers }
 {}
 
+/// The signers of a NewView that has a spelling are different.
+#[tactic(auto, using(crate::proofs::SupportLemmas::ascending_are_different))]
+pub fn ascending_are_different()
+    ensures { AscendingAreDifferent }
+{}
+
 /// A choice that a node announces, or with which it enters by a NewView, is supported by the facts, if the reports of
 /// correct members stand as facts.
-#[tactic(auto, using(crate::proofs::SupportLemmas::announced_is_supported, crate::proofs::SupportLemmas::entered_is_supported))]
 pub fn choices_are_supported()
     ensures announced { AnnouncedIsSupported }
     ensures entered { EnteredIsSupported }

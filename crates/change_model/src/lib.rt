@@ -9,6 +9,7 @@ mod pasts;
 pub use act::ChangeAct;
 pub use known::{KeptReport, Known, Own, Waiting};
 pub use laws::{
-    choice_is_the_rule, choices_are_supported, reasons_say_valid, reports_are_their_members,
+    ascending_are_different, choice_is_the_rule, choices_are_supported, reasons_say_valid,
+    reports_are_their_members,
 };
 pub use pasts::pasts_agree;

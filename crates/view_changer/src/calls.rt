@@ -31,7 +31,9 @@ ghost use Rattle.change_model.specs.Answers.{
   settled_turn,
   with_report,
 };
+ghost use Rattle.safety_model.specs.Choosing.{AreDifferent};
 ghost use Rattle.change_model.specs.Changing.{at_place};
+ghost use Rattle.change_model.specs.Choices.{signers_in};
 ghost use Rattle.change_model.specs.Dues.{announce_due, certified_due, entry_due, first_turn, leave_or_report_due, next_target, turned, waiting_due};
 ghost use Rattle.view_changer.specs.Places.{FitsSigned, IsPlace, StandsAt};
 ghost use Rattle.view_changer.specs.Rows.{StandsIn, act_in, act_or, after_in, kept_in, report_turn, with_kept};
@@ -416,7 +418,8 @@ impl Changer {
         }
     }
 
-    /// The collector of a view announces it. The answer is that the node enters the view, that it asks the collector for
+    /// The collector of a view announces it; the signers of its reports are different, as those of each NewView that was
+    /// decoded. The answer is that the node enters the view, that it asks the collector for
     /// blocks, or the first reason that holds. Without memory the changer is at the place.
     pub fn on_new_view<V: Verifier>(
         &mut self,
@@ -427,6 +430,7 @@ impl Changer {
     ) -> Result<ChangeAct, NoMemory>
         requires place { IsPlace place.now }
         requires reports { All FitsSigned message.reports }
+        requires different { AreDifferent (signers_in message.reports) }
         ensures answer { IfOk result (λ act. act ≡ (heard_news (V.accepts verifier.now) place.now (at_place place.now self.old) from message).act) }
         ensures after { OnOk result (self.new ≡ (heard_news (V.accepts verifier.now) place.now (at_place place.now self.old) from message).after) }
         ensures err { OnErr result (self.new ≡ at_place place.now self.old) }
