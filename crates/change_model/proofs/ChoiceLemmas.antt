@@ -1,19 +1,20 @@
 -- The order of votes, and the loops of the choice.
-use Rattle.std.proofs.Common.{◌≡◌, ℕ, ◌+◌, ◌≤◌, ◌<◌, Bool, true, false, ◌&&◌, cond, max, List, [], ◌∷◌, ◌++◌, take, drop, length, get_or, refl, sym, ap, subst, ◌∙◌, ◌⊎◌, inl, inr, arith, Option, Some, None}
-use Rattle.std.specs.Prelude.{◌==◌, nat_lt}
+use Rattle.std.proofs.Common.{◌≡◌, ℕ, ◌+◌, ◌≤◌, ◌<◌, Bool, true, false, ◌&&◌, cond, max, List, [], ◌∷◌, ◌++◌, take, drop, length, get_or, refl, sym, ap, subst, ◌∙◌, ◌⊎◌, inl, inr, arith, Option, Some, None, append-nil, append_assoc}
+use Rattle.std.specs.Prelude.{◌==◌, nat_le, nat_lt}
 use Rattle.std.specs.Cmp.Lexicographic.{slice_cmp}
 use Rattle.std.specs.Ordering.{is_lt, nat_cmp, ordering_reverse}
 use Rattle.std.specs.declared.cmp.Ordering.{Ordering}
 use Rattle.std.specs.declared.cmp.Ordering.TheVariants.{Less, Equal, Greater}
-use Rattle.std.proofs.lemmas.Bool.{and_from, and_parts, cases_Bool, eqb-true, eq-eqb, lt-ltb, ltb-true, or_cases, or_left, or_right}
+use Rattle.std.proofs.lemmas.Bool.{and_from, and_parts, cases_Bool, eqb-true, eq-eqb, leb-false, leb-true, lt-ltb, ltb-true, or_cases, or_left, or_right}
 use Rattle.std.proofs.lemmas.Cmp.{nat_list_cmp_total}
 use Rattle.std.proofs.lemmas.List.{drop_more, map-append, take-append-drop, take_more}
-use Rattle.ord_types.specs.declared.values.Choice.TheVariants.{Carry}
+use Rattle.ord_types.specs.declared.values.Choice.TheVariants.{Carry, Free, Neither}
 use Rattle.safety_model.specs.Choosing.{IsChoice, heard, is_before, is_better, is_told_at, passes, told_height}
-use Rattle.safety_model.specs.Reports.{is_told, vote_eq}
+use Rattle.safety_model.specs.Reports.{is_told, tells_none, vote_eq}
 use Rattle.safety_model.proofs.FactTests.{bytes_eq_refl}
 use Rattle.safety_model.proofs.TrueReports.{vote_same}
-use Rattle.view_changer.specs.Choices.{IsBest, Report, Signed, Vote, are_enough, better_of, passing_if, passing_of, reports_in}
+use Rattle.change_model.specs.Choices.{IsBest, Report, Signed, Vote, are_enough, best_from, better_of, carried_or, choice_of, passing_if, passing_of, reports_in}
+use Rattle.ord_types.specs.Members.{quorum}
 
 -- digests
 less_is : (o : Ordering) → is_lt o ≡ true → o ≡ Less
@@ -217,3 +218,21 @@ none_passes n x rs is other = elim (cases_Bool (passes n x rs other)) [
   | inr none ↦ none
   | inl yes' ↦ is other (and_parts (is_told_at x other rs) (are_enough n x rs other) yes').0
 ]
+
+-- the fold over all reports
+pub best_of_rest : (n x : ℕ) (rs these rest : List Report) (best : Option Vote) → rs ≡ these ++ rest → IsBest n x rs these best → IsBest n x rs rs (best_from n x rs best rest)
+best_of_rest n x rs these [] best split is = subst (λ (all : List Report). IsBest n x rs all best) (sym (split ∙ append-nil these)) is
+best_of_rest n x rs these (r ∷ rest) best split is =
+    best_of_rest n x rs (these ++ r ∷ []) rest (better_of (passing_of n x rs r) best) (split ∙ sym (append_assoc these (r ∷ []) rest)) (best_more n x rs these r rest best split is)
+
+-- the function is the rule
+pub choice_is : (n x : ℕ) (rs : List Report) → IsChoice n x rs (choice_of n x rs)
+choice_is n x rs = by_best (best_from n x rs None rs) (best_of_rest n x rs [] rs None refl (λ other told. absurd (cc)))
+  where
+    by_count : IsBest n x rs rs None → (b : Bool) → nat_le (quorum n) (heard x tells_none rs) ≡ b → IsChoice n x rs (cond b Free Neither)
+    by_count is true y = (none_passes n x rs is, leb-true (quorum n) (heard x tells_none rs) y)
+    by_count is false low = (none_passes n x rs is, leb-false (quorum n) (heard x tells_none rs) low)
+
+    by_best : (best : Option Vote) → IsBest n x rs rs best → IsChoice n x rs (carried_or best (cond (nat_le (quorum n) (heard x tells_none rs)) Free Neither))
+    by_best None is = by_count is (nat_le (quorum n) (heard x tells_none rs)) refl
+    by_best (Some vote) is = carried n x rs vote is
