@@ -54,7 +54,10 @@ fn bytes_are_judged_where_they_stand(rt: HostRuntime) -> Result<(), ClassRefusal
             assert!(rt; judge_request(alloc, &fits, &request, &keys)?.is_none());
             let small = config(alloc, Mode::Normal, 17);
             let large = ClassRefusal::Malformed(Malformed::TooLarge(18));
-            assert_eq!(rt; judge_request(alloc, &small, &request, &keys).err(), Some(large));
+            assert_eq!(rt;
+                judge_request(alloc, &small, &request, &keys).err(),
+                Some(large)
+            );
             assert_eq!(rt; request.copy(alloc)?.id.serial, 1);
         }
         Err(_at) => assert!(rt; false),

@@ -35,8 +35,7 @@ fn are_serials(requests: &List<Request>, serials: &[u64]) -> bool {
 }
 
 impl Both {
-    fn new(alloc: Global, limit: u32) -> Result<Both, NoMemory>
-    {
+    fn new(alloc: Global, limit: u32) -> Result<Both, NoMemory> {
         let timers = Timers {
             forward: FORWARD,
             complain: COMPLAIN,
@@ -110,9 +109,11 @@ impl Both {
     fn ages_alike(&mut self) -> Result<bool, NoMemory> {
         let aged = self.pool.age()?;
         let told = self.plain.age()?;
-        Ok(are_serials(&aged.forward, told.forward.as_slice())
-            && aged.complain == told.complain
-            && aged.removed == told.removed)
+        Ok(
+            are_serials(&aged.forward, told.forward.as_slice())
+                && aged.complain == told.complain
+                && aged.removed == told.removed,
+        )
     }
 
     fn offers_alike(&mut self) -> Result<bool, NoMemory> {
@@ -148,7 +149,8 @@ impl Both {
         } else {
             Mode::Normal
         };
-        self.pool.on_config(config(self.alloc, count, mode), &self.keys)?;
+        self.pool
+            .on_config(config(self.alloc, count, mode), &self.keys)?;
         self.plain.on_config(count as usize, maintenance);
         Ok(true)
     }
@@ -191,7 +193,10 @@ fn random_calls_are_answered_alike(rt: HostRuntime) -> Result<(), NoMemory> {
         let mut both = Both::new(rt.alloc(), limit)?;
         for call in 0..2000 {
             let alike = both.answers_alike()?;
-            assert!(rt; alike && both.counts_alike(), "call {call} at limit {limit}");
+            assert!(rt;
+                alike && both.counts_alike(),
+                "call {call} at limit {limit}"
+            );
         }
         for count in both.plain.refused {
             assert!(rt; 0 < count || 8 < limit, "every cause is met");

@@ -6,12 +6,16 @@ use std::alloc::Global;
 
 /// The greatest count and sizes of a batch, and how long it waits.
 pub const PREFERRED: u32 = 100;
+
 pub const ABSOLUTE: u32 = 200;
+
 pub const WAIT: u32 = 5;
 
 /// The ages at which a request is forwarded, makes its node complain, and goes.
 pub const FORWARD: u32 = 2;
+
 pub const COMPLAIN: u32 = 3;
+
 pub const REMOVE: u32 = 9;
 
 /// A waiting request of client 1: its serial, the length of its spelling, and its age.
@@ -67,8 +71,7 @@ impl PlainPool {
     }
 
     // Why an ordinary request doesn't enter, with the place of the cause's count.
-    fn bar(&self, serial: u64, size: u32) -> Option<(usize, Refusal)>
-    {
+    fn bar(&self, serial: u64, size: u32) -> Option<(usize, Refusal)> {
         if ABSOLUTE < size {
             return Some((0, Refusal::Malformed(Malformed::TooLarge(size))));
         }
