@@ -50,10 +50,12 @@ use Rattle.view_model.specs.Answers.{
   accepts_nothing,
   act_or,
   after_act,
+  after_due,
   after_prepare,
   after_propose,
   after_vote,
   at_place,
+  due_answer,
   is_new,
   kept_after,
   prepare_answer,
@@ -177,6 +179,19 @@ vote_view result r accepts p letter left s here ok err =
     (λ e. subst (IsViewOf r)
     (sym (e ∙ ap (λ q. after_vote accepts q r.view letter) here ∙ ap (λ v. after_act (vote_answer accepts (place_of r) v letter) (kept_after accepts (place_of r) v letter)) at))
     (act_view r (vote_answer accepts (place_of r) r.view letter) kept (kept_view_of r accepts r.view letter (same_view r s))))
+    (λ e. subst (IsViewOf r) (sym (e ∙ ap (λ q. at_place q r.view) here ∙ at)) (same_view r s))
+
+-- what is left where the act that is due was asked for, whatever is answered
+pub due_view : {T E : Type 0} (result : Result T E) (r : Running) (accepts : Accepts) (p : Place) (left : View)
+    → IsSound r → p ≡ place_of r → OnOk result (left ≡ after_due accepts p r.view)
+    → OnErr result (left ≡ at_place p r.view) → IsViewOf r left
+due_view result r accepts p left s here ok err =
+    let at = at_place-at (place_of r) r.view s.at in
+    whatever result (left ≡ after_due accepts p r.view) (left ≡ at_place p r.view) (IsViewOf r left) ok err
+    (λ e. subst (IsViewOf r)
+    (sym (e ∙ ap (λ q. after_due accepts q r.view) here
+    ∙ ap (λ v. after_act (due_answer accepts (place_of r) v) v) at))
+    (act_view r (due_answer accepts (place_of r) r.view) r.view (same_view r s)))
     (λ e. subst (IsViewOf r) (sym (e ∙ ap (λ q. at_place q r.view) here ∙ at)) (same_view r s))
 
 -- WHERE A STEP BEGINS

@@ -76,8 +76,8 @@ Taken told b made r a = Makes b made told r a
 abbrev pub Telling : Act → Phase
 Telling told b made r a = Tells b made told r a
 
--- A CALL MAKES A RULE of each step so far that stands so, and leaves it so; or it was given up while it made it.
--- The keys of the definition say what these signed.
+-- A CALL MAKES A RULE of each step so far that stands so, and leaves it so; or it was given up while it made
+-- it. The keys of the definition say what these signed.
 abbrev pub MakesRule : {K T : Type 0} → (K → Acceptance) → (Keys → Rule) → Result T NodeFault → Phase
     → (T → Phase) → Stage K → Stage K → List (Signing K) → Type 0
 MakesRule accepts rule result starts ends old new signings =
@@ -171,6 +171,9 @@ tells_act told = is_some (duty_in told)
 abbrev pub does_told : Keys → Option Duty → Rule
 does_told keys None signed c = []
 does_told keys (Some d) signed c = does keys d signed c
+
+abbrev pub does_duty : Duty → Keys → Rule
+does_duty d keys = does keys d
 
 -- the told act
 abbrev pub does_act : Act → Keys → Rule

@@ -29,18 +29,21 @@ abbrev pub own_letter : ℕ → Commit → Letter
 own_letter id commit = record { from = id; message = vote_of.Commit commit }
 
 -- what a vote is answered by, and what it leaves
-pub record Votes (accepts : Accepts) (place : Place) (before : View) (letter : Letter) (told : Act) (left : View) : Type 0 where
+pub record Votes (accepts : Accepts) (place : Place) (before : View) (letter : Letter) (told : Act)
+    (left : View) : Type 0 where
   pub answer : told ≡ vote_answer accepts place (at_place place before) letter
   pub after : left ≡ after_vote accepts place before letter
 
 -- the one signing, and the Commit of it to all; it counts as any other
-pub record Commits {K : Type 0} (digest : List ℕ) (told : Act) (old new : Running) (accepts : Accepts) (keys : K) (signings : List (Signing K)) (before after : Out) : Type 0 where
+pub record Commits {K : Type 0} (digest : List ℕ) (told : Act) (old new : Running) (accepts : Accepts)
+    (keys : K) (signings : List (Signing K)) (before after : Out) : Type 0 where
   pub sig : Sig
   pub signed : signings ≡ signing (statement_at old digest) sig keys ∷ []
   pub id : new.id ≡ old.id
   pub store : new.store ≡ old.store
   pub found : new.found ≡ old.found
-  pub votes : Votes accepts (place_of old) old.view (own_letter old.id (commit_at old digest sig)) told new.view
+  pub votes : Votes accepts (place_of old) old.view (own_letter old.id (commit_at old digest sig)) told
+      new.view
   pub sends : map sent_of after.sends
       ≡ map sent_of before.sends ++ sent_to_others old (wire.Commit (commit_at old digest sig) ∷ [])
   pub facts : after.facts ≡ before.facts

@@ -22,11 +22,13 @@ pub record Opens (accepts : Accepts) (c : Config) (image : Image) (held : Held) 
   pub log : opens_as (image 0) ≡ Ok held.records
 
 -- It opens to what the first of these deeds leave.
-pub record OpensAfter (accepts : Accepts) (c : Config) (deeds : List Deed) (held : Held) (image : Image) : Type 0 where
+pub record OpensAfter (accepts : Accepts) (c : Config) (deeds : List Deed) (held : Held) (image : Image)
+    : Type 0 where
   pub done : ℕ
   pub some : done ≤ length deeds
   pub opens : Opens accepts c image (with_deeds (take done deeds) held)
 
 -- Every crash at this moment opens to what a front of these deeds leaves.
 abbrev pub Within : Accepts → Config → List Deed → Held → State → Type 0
-Within accepts c deeds held state = (image : Image) → IsCrash state image → OpensAfter accepts c deeds held image
+Within accepts c deeds held state =
+    (image : Image) → IsCrash state image → OpensAfter accepts c deeds held image

@@ -32,6 +32,7 @@ pub record Keeps (deed : Deed) (old new : Running) (before told : Out) : Type 0 
 -- with this deed or without, for every judge who accepts at least this.
 abbrev pub KeepsWithin : Deed → Running → Accepts → Bool → List State → List State → Type 0
 KeepsWithin deed r accepts tells before after =
-    (judge : Accepts) → KeepsAccepted accepts judge → IsChain accepts (config_of r.store) (held_of r.store).blocks
+    (judge : Accepts) → KeepsAccepted accepts judge
+    → IsChain accepts (config_of r.store) (held_of r.store).blocks
     → IsTrue tells
     → Went (Within judge (config_of r.store) (deed ∷ []) (held_of r.store)) before after

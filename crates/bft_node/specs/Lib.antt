@@ -10,6 +10,7 @@ pub mod NodeFaults
 pub mod NodeOpenings
 pub mod NodeSteps
 pub mod Openings
+pub mod Outcomes
 pub mod Returning
 pub mod Running
 pub mod Signings

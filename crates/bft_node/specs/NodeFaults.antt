@@ -1,5 +1,25 @@
 -- Why a step wasn't done.
-use Rattle.std.specs.Prelude.{ℕ, ◌^◌, ◌≤◌, ◌⊎◌, ◌≡◌, Bool, true, false, IsTrue, List, length, take, slice_get, Option, Some, IsSome, Result, Ok, Err}
+use Rattle.std.specs.Prelude.{
+  ℕ,
+  ◌^◌,
+  ◌≤◌,
+  ◌⊎◌,
+  ◌≡◌,
+  Bool,
+  true,
+  false,
+  IsTrue,
+  List,
+  length,
+  take,
+  slice_get,
+  Option,
+  Some,
+  IsSome,
+  Result,
+  Ok,
+  Err,
+}
 use Rattle.ord_types.specs.Causes.{Rose}
 use Rattle.bft_wal.specs.declared.record.WalRecord.TheVariants as record_of
 use Rattle.gate_log.specs.Disk.{State}
@@ -49,11 +69,12 @@ is_delivery (Prepares i e v s d) = false
 is_delivery (Leaves i e v) = false
 is_delivery (Enters i e v x choice) = false
 
--- A deed of a node that holds so would make a file too long, or is the delivery after which no number is left. Where the disk tells, the
--- files are those in which the node's store is kept.
+-- A deed of a node that holds so would make a file too long, or is the delivery after which no number is
+-- left. Where the disk tells, the files are those in which the node's store is kept.
 abbrev pub NeedsMore : Bool → ℕ → Deed → Held → Type 0
 NeedsMore tells limit deed held =
-    ((limit ≡ 2 ^ 62) × ((store : Store) × (held_of store ≡ held) × IsSome (write_limit store deed) × (IsTrue tells → (state : State) × IsKept store state)))
+    ((limit ≡ 2 ^ 62) × ((store : Store) × (held_of store ≡ held) × IsSome (write_limit store deed)
+    × (IsTrue tells → (state : State) × IsKept store state)))
     ⊎ ((limit ≡ 4611686018427387903) × (is_delivery deed ≡ true) × (4611686018427387903 ≤ length held.blocks))
 
 -- the same of the deed at which a call fails
@@ -68,7 +89,8 @@ NeedsLimit tells deed held node_of.Sign = Unit {0}
 abbrev pub HasLimit : Bool → Held → List Deed → NodeFault → Type 0
 HasLimit tells held deeds node_of.Closed = Unit {0}
 HasLimit tells held deeds (node_of.Limit n) =
-    (k : ℕ) × (deed : Deed) × (slice_get deeds k ≡ Some deed) × NeedsMore tells n deed (with_deeds (take k deeds) held)
+    (k : ℕ) × (deed : Deed) × (slice_get deeds k ≡ Some deed)
+    × NeedsMore tells n deed (with_deeds (take k deeds) held)
 HasLimit tells held deeds node_of.NoMemory = Unit {0}
 HasLimit tells held deeds node_of.Disk = 1 ≤ length deeds
 HasLimit tells held deeds node_of.Sign = Unit {0}

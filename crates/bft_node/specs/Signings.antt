@@ -24,30 +24,36 @@ keys_after k [] = k
 keys_after k (s ∷ more) = keys_after s.keys more
 
 -- each is what keys of this kind may answer
-abbrev pub AreGiven : {K : Type 0} → (K → List ℕ → Result Sig SignFault → K → Type 0) → K → List (Signing K) → Type 0
+abbrev pub AreGiven : {K : Type 0} → (K → List ℕ → Result Sig SignFault → K → Type 0) → K
+    → List (Signing K) → Type 0
 AreGiven gives k [] = ⊤
 AreGiven gives k (s ∷ more) = gives k s.statement (Ok s.sig) s.keys × AreGiven gives s.keys more
 
--- The keys of a definition's step say what these did, from the moment on in which these statements were signed: what is
--- accepted in each moment, and what is signed next.
+-- The keys of a definition's step say what these did, from the moment on in which these statements were
+-- signed: what is accepted in each moment, and what is signed next.
 abbrev pub KeysFit : {K : Type 0} → (K → Accepts) → Keys → List (List ℕ) → K → List (Signing K) → Type 0
 KeysFit accepts keys before k [] = keys.accepts before ≡ accepts k
 KeysFit accepts keys before k (s ∷ more) =
-    (keys.accepts before ≡ accepts k) × (keys.signs before ≡ s.sig) × KeysFit accepts keys (before ++ s.statement ∷ []) s.keys more
+    (keys.accepts before ≡ accepts k) × (keys.signs before ≡ s.sig)
+    × KeysFit accepts keys (before ++ s.statement ∷ []) s.keys more
 
 -- keys that were asked for a statement and gave no signature
-pub record Tries {K : Type 0} (gives : K → List ℕ → Result Sig SignFault → K → Type 0) (old new : K) : Type 0 where
+pub record Tries {K : Type 0} (gives : K → List ℕ → Result Sig SignFault → K → Type 0) (old new : K)
+    : Type 0 where
   pub statement : List ℕ
   pub fault : SignFault
   pub given : gives old statement (Err fault) new
 
--- where the keys of a call end: in the state after its signatures; where it was given up, maybe after one that failed
-abbrev pub EndsAt : {K T E : Type 0} → (K → List ℕ → Result Sig SignFault → K → Type 0) → Result T E → K → K → Type 0
+-- where the keys of a call end: in the state after its signatures; where it was given up, maybe after one
+-- that failed
+abbrev pub EndsAt : {K T E : Type 0} → (K → List ℕ → Result Sig SignFault → K → Type 0) → Result T E → K → K
+    → Type 0
 EndsAt gives (Ok _) k new = new ≡ k
 EndsAt gives (Err _) k new = (new ≡ k) ⊎ Tries gives k new
 
 -- What the keys signed in a call, and what follows for these signings.
-pub record Signs {K T E : Type 0} (gives : K → List ℕ → Result Sig SignFault → K → Type 0) (result : Result T E) (old new : K) (P : List (Signing K) → Type 0) : Type 0 where
+pub record Signs {K T E : Type 0} (gives : K → List ℕ → Result Sig SignFault → K → Type 0)
+    (result : Result T E) (old new : K) (P : List (Signing K) → Type 0) : Type 0 where
   pub signings : List (Signing K)
   pub given : AreGiven gives old signings
   pub after : EndsAt gives result (keys_after old signings) new

@@ -1,8 +1,31 @@
 -- A ledger and a log over one disk, and what their calls leave and answer.
-use Rattle.std.specs.Prelude.{◌≡◌, ◌≢◌, ◌⊎◌, Bool, false, ℕ, ◌+◌, ◌^◌, List, [], ◌∷◌, ◌++◌, length, nat_lt, Option, Some, None, Result, Ok, Err, if◌then◌else◌}
+use Rattle.std.specs.Prelude.{
+  ◌≡◌,
+  ◌≢◌,
+  ◌⊎◌,
+  Bool,
+  false,
+  ℕ,
+  ◌+◌,
+  ◌^◌,
+  List,
+  [],
+  ◌∷◌,
+  ◌++◌,
+  length,
+  nat_lt,
+  Option,
+  Some,
+  None,
+  Result,
+  Ok,
+  Err,
+  if◌then◌else◌,
+}
 use Rattle.ord_types.specs.Causes.{Rose}
 use Rattle.ord_types.specs.declared.values.Config.{Config}
 use Rattle.gate_log.specs.Disk.{State}
+use Rattle.gate_log.specs.Runs.{Went}
 use Rattle.gate_log.specs.Settled.{too_long}
 use Rattle.gate_log.specs.declared.fault.LogFault.{LogFault}
 use Rattle.gate_log.specs.declared.fault.LogFault.TheVariants as log_of
@@ -17,7 +40,7 @@ use Rattle.block_ledger.specs.Reading.{Bad, Chain, Foreign, stands_for}
 use Rattle.block_ledger.specs.declared.fault.LedgerFault.{LedgerFault}
 use Rattle.block_ledger.specs.declared.fault.LedgerFault.TheVariants as ledger_of
 use Rattle.node_model.specs.Entries.{Deed}
-use Rattle.bft_node.specs.Crashes.{Image, IsCrash}
+use Rattle.bft_node.specs.Crashes.{Image, IsCrash, Within}
 use Rattle.bft_node.specs.Held.{Held, with_deed}
 use Rattle.bft_node.specs.declared.fault.OpenFault.{OpenFault}
 use Rattle.bft_node.specs.declared.fault.OpenFault.TheVariants as open_of
@@ -44,7 +67,13 @@ OthersStay before state = (file : ℕ) → file ≢ 0 → file ≢ 2 → state f
 
 -- the deed stands in the log as this record
 abbrev pub IsStoredAs : Deed → WalRecord → Type 0
-IsStoredAs deed entry = (held : Held) → with_deed deed held ≡ record held { records = held.records ++ entry ∷ [] }
+IsStoredAs deed entry =
+    (held : Held) → with_deed deed held ≡ record held { records = held.records ++ entry ∷ [] }
+
+-- at each moment every crash opens to what a store held, with this deed or without
+abbrev pub WritesWithin : Store → Deed → Accepts → List State → List State → Type 0
+WritesWithin store deed accepts before after =
+    Went (Within accepts (config_of store) (deed ∷ []) (held_of store)) before after
 
 -- the length that a record or its file would get, where it is too great
 abbrev pub log_limit : Store → WalRecord → Option ℕ
@@ -53,7 +82,8 @@ log_limit store entry = too_long store.wal.log.gate (length (record_text entry))
 -- the same of the ledger's file with an entry
 abbrev pub ledger_limit : Store → Entry → Option ℕ
 ledger_limit store e =
-    if nat_lt (2 ^ 62) (end_of store.ledger + 5 + length (entry_text e)) then Some (end_of store.ledger + 5 + length (entry_text e)) else None
+    let grown : ℕ = end_of store.ledger + 5 + length (entry_text e) in
+    if nat_lt (2 ^ 62) grown then Some grown else None
 
 -- why a call that makes a deed durable answers so; want of memory may come before a length is looked at
 abbrev pub WriteAnswers : Option ℕ → ℕ → ℕ → Result (Unit {0}) StoreFault → Type 0
@@ -76,19 +106,24 @@ HasChain accepts c state = (chain : List Entry) × (stands_for accepts c (state 
 -- a file is foreign at its first wrong place: the ledger's, or else the log's
 abbrev pub IsForeign : Accepts → Config → State → ℕ → ℕ → Type 0
 IsForeign accepts c state file at =
-    ((file ≡ 2) × (stands_for accepts c (state 2).reads ≡ Foreign at)) ⊎ ((file ≡ 0) × HasChain accepts c state × (opens_as (state 0).reads ≡ Err at))
+    ((file ≡ 2) × (stands_for accepts c (state 2).reads ≡ Foreign at))
+    ⊎ ((file ≡ 0) × HasChain accepts c state × (opens_as (state 0).reads ≡ Err at))
 
--- The store holds what the files stand for, or the first cause of a refusal is told: the ledger's file, a stored block, the log's file.
+-- The store holds what the files stand for, or the first cause of a refusal is told: the ledger's file, a
+-- stored block, the log's file.
 abbrev pub OpensTo : Accepts → Config → State → Result Store OpenFault → Type 0
 OpensTo accepts c state (Ok store) =
-    (stands_for accepts c (state 2).reads ≡ Chain (held_of store).blocks) × (opens_as (state 0).reads ≡ Ok (held_of store).records)
+    (stands_for accepts c (state 2).reads ≡ Chain (held_of store).blocks)
+    × (opens_as (state 0).reads ≡ Ok (held_of store).records)
 OpensTo accepts c state (Err (open_of.Foreign file at)) = IsForeign accepts c state file at
-OpensTo accepts c state (Err (open_of.Stored number why)) = stands_for accepts c (state 2).reads ≡ Bad number why
+OpensTo accepts c state (Err (open_of.Stored number why)) =
+    stands_for accepts c (state 2).reads ≡ Bad number why
 OpensTo accepts c state (Err (open_of.Limit n)) = ⊥
 OpensTo accepts c state (Err open_of.NoMemory) = Unit {0}
 OpensTo accepts c state (Err open_of.Disk) = Unit {0}
 
--- why a store isn't opened; a disk that doesn't tell may hold a file that gets too long by what an opening adds
+-- why a store isn't opened; a disk that doesn't tell may hold a file that gets too long by what an opening
+-- adds
 abbrev pub OpenAnswers : {T : Type 0} → Bool → ℕ → ℕ → Result T OpenFault → Type 0
 OpenAnswers tells before now (Ok _) = Unit {0}
 OpenAnswers tells before now (Err (open_of.Foreign file at)) = (file ≡ 0) ⊎ (file ≡ 2)

@@ -3,7 +3,7 @@ ghost use Rattle.std.specs.Prelude.{◌≡◌, ◌≤◌, ◌<◌, Bool, List as
 ghost use Rattle.ord_types.specs.Lengths.{FitsSig};
 ghost use Rattle.gate_log.specs.Disk.{State};
 ghost use Rattle.view_model.specs.declared.act.Act.TheVariants as act_of;
-ghost use Rattle.node_model.specs.Steps.{all_due, does};
+ghost use Rattle.node_model.specs.Steps.{all_due};
 ghost use Rattle.node_model.specs.Steps as duty_of;
 ghost use Rattle.view_core.specs.Fits.{FitsAct};
 ghost use Rattle.bft_node.specs.Calls.{
@@ -16,6 +16,7 @@ ghost use Rattle.bft_node.specs.Calls.{
   Telling,
   TellsDue,
   does_act,
+  does_duty,
   stage,
   still_with,
   tells_act,
@@ -49,8 +50,7 @@ impl Running {
         self.view.due(self.store.ledger.place(), keys)
     }
 
-    /// An acceptance that is due: it is made durable, and a Prepare goes to all. The answer is the next act that
-    /// is due.
+    /// An acceptance that is due: it is made durable, and a Prepare goes to all. The answer is the next act.
     fn accept<D: Disk, V: Verifier>(
         &mut self,
         block: Block,
@@ -62,7 +62,7 @@ impl Running {
         ensures same { OnOk result (IsSame self.old self.new) }
         ensures ready { OnOk result (IsReady (D.tells disk.new) (D.moments disk.new) self.new) }
         ensures fits { IfOk result FitsAct }
-        ensures makes { AddsRule (V.accepts keys.now) (λ keys. does keys (duty_of.Accept block)) result
+        ensures makes { AddsRule (V.accepts keys.now) (does_duty (duty_of.Accept block)) result
             (Taken (act_of.Accept block)) Telling
             (stage self.old tt (D.tells disk.old) (D.moments disk.old) out.old)
             (stage self.new tt (D.tells disk.new) (D.moments disk.new) out.new) }
@@ -104,8 +104,8 @@ impl Running {
         })
     }
 
-    /// Signs a Commit of the digest and sends it to all; the own one counts as any other. The answer is the act
-    /// that is due then.
+    /// Signs a Commit of the digest and sends it to all; the own one counts as any other. The answer is the
+    /// act that is due then.
     pub(crate) fn commit<K: Signer + Verifier>(
         &mut self,
         digest: Digest,
@@ -134,8 +134,7 @@ impl Running {
         Ok(told)
     }
 
-    /// A preparation that is due: it is made durable before the Commit is signed. The answer is the next act that
-    /// is due.
+    /// A preparation that is due: it is made durable before the Commit is signed. The answer is the next act.
     fn prepare<D: Disk, K: Signer + Verifier>(
         &mut self,
         digest: Digest,
@@ -148,7 +147,7 @@ impl Running {
         ensures ready { OnOk result (IsReady (D.tells disk.new) (D.moments disk.new) self.new) }
         ensures fits { IfOk result FitsAct }
         ensures makes { Signs K.sign_gives result keys.old keys.new (MakesRule K.accepts
-            (λ keys. does keys (duty_of.Prepare digest)) result (Taken (act_of.Prepare digest)) Telling
+            (does_duty (duty_of.Prepare digest)) result (Taken (act_of.Prepare digest)) Telling
             (stage self.old keys.old (D.tells disk.old) (D.moments disk.old) out.old)
             (stage self.new keys.new (D.tells disk.new) (D.moments disk.new) out.new)) }
         ensures next { IfOk result (λ next. DoesDuty (K.accepts keys.new) (duty_of.Prepare digest)
@@ -175,7 +174,7 @@ impl Running {
         ensures same { OnOk result (IsSame self.old self.new) }
         ensures ready { OnOk result (IsReady (D.tells disk.new) (D.moments disk.new) self.new) }
         ensures fits { IfOk result FitsAct }
-        ensures makes { AddsRule (V.accepts keys.now) (λ keys. does keys (duty_of.Deliver block cert)) result
+        ensures makes { AddsRule (V.accepts keys.now) (does_duty (duty_of.Deliver block cert)) result
             (Taken (act_of.Deliver block cert)) Telling
             (stage self.old tt (D.tells disk.old) (D.moments disk.old) out.old)
             (stage self.new tt (D.tells disk.new) (D.moments disk.new) out.new) }

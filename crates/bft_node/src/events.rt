@@ -13,6 +13,7 @@ ghost use Rattle.node_model.specs.Steps.{own_rule, proposes};
 ghost use Rattle.view_core.specs.Fits.{FitsAct};
 ghost use Rattle.bft_node.specs.Calls.{AddsRule, MakesStep, Quiet, Taken, TellsDue, stage};
 ghost use Rattle.bft_node.specs.NodeFaults.{HasNodeCause, counts};
+ghost use Rattle.bft_node.specs.Outcomes.{KeepsRunning, devices};
 ghost use Rattle.bft_node.specs.Running.{IsReady, IsSame, IsSound, state_of};
 ghost use Rattle.bft_node.specs.Signings.{Signs};
 
@@ -207,16 +208,13 @@ impl Running {
         out: &mut Out,
     ) -> Result<(), NodeFault>
         requires { IsReady (D.tells disk.old) (D.moments disk.old) self.old }
-        ensures same { OnOk result (IsSame self.old self.new) }
-        ensures ready { OnOk result (IsReady (D.tells disk.new) (D.moments disk.new) self.new) }
+        ensures runs { KeepsRunning result self.old self.new
+            (devices (D.tells disk.old) (D.moments disk.old) (D.faults disk.old) (K.faults keys.old))
+            (devices (D.tells disk.new) (D.moments disk.new) (D.faults disk.new) (K.faults keys.new)) }
         ensures makes { Signs K.sign_gives result keys.old keys.new (MakesStep K.accepts
             (FromMember from bytes.now) result
             (stage self.old keys.old (D.tells disk.old) (D.moments disk.old) out.old)
             (stage self.new keys.new (D.tells disk.new) (D.moments disk.new) out.new)) }
-        ensures tells { D.tells disk.new ≡ D.tells disk.old }
-        ensures later { (D.faults disk.old ≤ D.faults disk.new) × (K.faults keys.old ≤ K.faults keys.new) }
-        ensures cause { HasNodeCause (counts (D.faults disk.old) (K.faults keys.old))
-            (counts (D.faults disk.new) (K.faults keys.new)) result }
     {
         let told = self.comes(from, bytes, keys)?;
         self.acts(told, disk, keys, out)

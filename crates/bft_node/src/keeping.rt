@@ -79,8 +79,8 @@ impl Running {
         ensures keeps { OnOk result (Keeps (acceptance (place_of self.old) self.old.view block)
             self.old self.new out.old out.new) }
         ensures any_moment { (accepts : SomeAccepts)
-            → KeepsWithin (acceptance (place_of self.old) self.old.view block) self.old accepts (D.tells disk.old)
-            (D.moments disk.old) (D.moments disk.new) }
+            → KeepsWithin (acceptance (place_of self.old) self.old.view block) self.old accepts
+            (D.tells disk.old) (D.moments disk.old) (D.moments disk.new) }
         ensures limit { IfErr result (NeedsLimit (D.tells disk.old)
             (acceptance (place_of self.old) self.old.view block) (held_of self.old.store)) }
         ensures tells { D.tells disk.new ≡ D.tells disk.old }
@@ -120,8 +120,8 @@ impl Running {
         ensures keeps { OnOk result (Keeps (preparation (place_of self.old) self.old.view digest)
             self.old self.new out.old out.new) }
         ensures any_moment { (accepts : SomeAccepts)
-            → KeepsWithin (preparation (place_of self.old) self.old.view digest) self.old accepts (D.tells disk.old)
-            (D.moments disk.old) (D.moments disk.new) }
+            → KeepsWithin (preparation (place_of self.old) self.old.view digest) self.old accepts
+            (D.tells disk.old) (D.moments disk.old) (D.moments disk.new) }
         ensures limit { IfErr result (NeedsLimit (D.tells disk.old)
             (preparation (place_of self.old) self.old.view digest) (held_of self.old.store)) }
         ensures tells { D.tells disk.new ≡ D.tells disk.old }

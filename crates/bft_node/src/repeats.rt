@@ -21,8 +21,7 @@ use std::mem;
 use view_core::Act;
 
 impl Running {
-    /// Whether the node is a member of a BFT configuration, inside its view, and stands where the opening found
-    /// it.
+    /// Whether the node is a member of a BFT configuration, inside its view, and stands where it was found.
     fn is_current(&self, found: &Found) -> bool
         requires { IsSound self.now }
         ensures { (f : FoundOnce) → as_found (Some found.now) ≡ Some f
@@ -79,7 +78,8 @@ impl Running {
         ensures ready { (tells : Bool) (moments : Items State)
             → IsReady tells moments self.old → IsReady tells moments self.new }
         ensures makes { Signs K.sign_gives result keys.old keys.new (MakesUnwritten K.accepts
-            (repeats_current (as_found (Some found.now))) result self.old keys.old out.old self.new keys.new out.new) }
+            (repeats_current (as_found (Some found.now))) result self.old keys.old out.old
+            self.new keys.new out.new) }
         ensures later { K.faults keys.old ≤ K.faults keys.new }
         ensures no_disk { IfErr result TouchesNoDisk }
         ensures cause { HasNodeCause (counts 0 (K.faults keys.old)) (counts 0 (K.faults keys.new)) result }
@@ -111,7 +111,8 @@ impl Running {
         ensures ready { (tells : Bool) (moments : Items State)
             → IsReady tells moments self.old → IsReady tells moments self.new }
         ensures makes { Signs K.sign_gives result keys.old keys.new (MakesUnwritten K.accepts
-            (λ keys signed c. commits keys signed c digest) result self.old keys.old out.old self.new keys.new out.new) }
+            (λ keys signed c. commits keys signed c digest) result self.old keys.old out.old
+            self.new keys.new out.new) }
         ensures later { K.faults keys.old ≤ K.faults keys.new }
         ensures no_disk { IfErr result TouchesNoDisk }
         ensures cause { HasNodeCause (counts 0 (K.faults keys.old)) (counts 0 (K.faults keys.new)) result }
@@ -135,7 +136,8 @@ impl Running {
         ensures ready { (tells : Bool) (moments : Items State)
             → IsReady tells moments self.old → IsReady tells moments self.new }
         ensures makes { Signs K.sign_gives result keys.old keys.new (MakesUnwritten K.accepts
-            (repeats_current (as_found self.old.found)) result (record self.old { found = None }) keys.old out.old self.new keys.new out.new) }
+            (repeats_current (as_found self.old.found)) result (record self.old { found = None })
+            keys.old out.old self.new keys.new out.new) }
         ensures later { K.faults keys.old ≤ K.faults keys.new }
         ensures no_disk { IfErr result TouchesNoDisk }
         ensures cause { HasNodeCause (counts 0 (K.faults keys.old)) (counts 0 (K.faults keys.new)) result }

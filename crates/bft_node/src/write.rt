@@ -17,7 +17,6 @@ ghost use Rattle.node_model.specs.Entries.{
   Delivers as Delivering,
   Deed as SomeDeed,
 };
-ghost use Rattle.bft_node.specs.Crashes.{Within};
 ghost use Rattle.bft_node.specs.Held.{with_deed};
 ghost use Rattle.bft_node.specs.Stores.{
   IsKept,
@@ -25,6 +24,7 @@ ghost use Rattle.bft_node.specs.Stores.{
   OnRefusal,
   OthersStay,
   WriteAnswers,
+  WritesWithin,
   config_of,
   held_of,
   ledger_limit,
@@ -80,8 +80,7 @@ impl Store {
         ensures ledger { self.new.ledger ≡ self.old.ledger }
         ensures any_moment { (deed : SomeDeed) (accepts : SomeAccepts) → IsStoredAs deed entry.now
             → IsTrue (D.tells disk.old) → IsChain accepts (config_of self.old) (held_of self.old).blocks
-            → Went (Within accepts (config_of self.old) (deed ∷ []) (held_of self.old))
-            (D.moments disk.old) (D.moments disk.new) }
+            → WritesWithin self.old deed accepts (D.moments disk.old) (D.moments disk.new) }
         ensures others { IsTrue (D.tells disk.old) → Went (OthersStay (now (D.moments disk.old)))
             (D.moments disk.old) (D.moments disk.new) }
         ensures refused { OnRefusal result ((self.new ≡ self.old) × (disk.new ≡ disk.old)) }
@@ -96,8 +95,8 @@ impl Store {
         }
     }
 
-    /// Makes an acceptance durable: of a block, in a view, at a number, under the configuration of this number.
-    /// After `Disk` the store has to be opened again.
+    /// Makes an acceptance durable: of a block, in a view, at a number, under the configuration of this
+    /// number. After `Disk` the store has to be opened again.
     pub fn accept<D: Disk>(
         &mut self,
         alloc: Global,
@@ -121,8 +120,7 @@ impl Store {
         // changes.
         ensures any_moment { (id : ℕ) (accepts : SomeAccepts) → IsTrue (D.tells disk.old)
             → IsChain accepts (config_of self.old) (held_of self.old).blocks
-            → Went (Within accepts (config_of self.old) (Accepting id config view number block ∷ [])
-            (held_of self.old))
+            → WritesWithin self.old (Accepting id config view number block) accepts
             (D.moments disk.old) (D.moments disk.new) }
         ensures others { IsTrue (D.tells disk.old) → Went (OthersStay (now (D.moments disk.old)))
             (D.moments disk.old) (D.moments disk.new) }
@@ -162,8 +160,7 @@ impl Store {
         ensures ledger { self.new.ledger ≡ self.old.ledger }
         ensures any_moment { (id : ℕ) (accepts : SomeAccepts) → IsTrue (D.tells disk.old)
             → IsChain accepts (config_of self.old) (held_of self.old).blocks
-            → Went (Within accepts (config_of self.old) (Preparing id config view number digest ∷ [])
-            (held_of self.old))
+            → WritesWithin self.old (Preparing id config view number digest) accepts
             (D.moments disk.old) (D.moments disk.new) }
         ensures others { IsTrue (D.tells disk.old) → Went (OthersStay (now (D.moments disk.old)))
             (D.moments disk.old) (D.moments disk.new) }
@@ -211,8 +208,7 @@ impl Store {
         ensures any_moment { (id : ℕ) (accepts : SomeAccepts) → IsTrue (D.tells disk.old)
             → KeepsAccepted (V.accepts verifier.now) accepts
             → IsChain (V.accepts verifier.now) (config_of self.old) (held_of self.old).blocks
-            → Went (Within accepts (config_of self.old) (Delivering id block (Bft cert) ∷ [])
-            (held_of self.old))
+            → WritesWithin self.old (Delivering id block (Bft cert)) accepts
             (D.moments disk.old) (D.moments disk.new) }
         ensures others { IsTrue (D.tells disk.old) → Went (OthersStay (now (D.moments disk.old)))
             (D.moments disk.old) (D.moments disk.new) }

@@ -77,3 +77,7 @@ OpenAnswers before now (Err (TooLong n)) = ⊥
 OpenAnswers before now (Err (ForeignFile at)) = Unit {0}
 OpenAnswers before now (Err NoMemory) = Unit {0}
 OpenAnswers before now (Err Failed) = Rose before now
+
+-- The files of a disk keep these records: the log's file opens to them.
+abbrev pub KeepsRecords : (ℕ → List ℕ) → List WalRecord → Type 0
+KeepsRecords files records = opens_as (files 0) ≡ Ok records

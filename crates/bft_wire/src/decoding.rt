@@ -33,7 +33,7 @@ use crate::message::{
     Message, NewView, PrePrepare, Prepare, RaftAppend, RaftAppendReply, RaftBlock, RaftVote,
     RaftVoteReply, Signed, ViewChange, ViewData,
 };
-use ord_types::{Halt, Header, List, Reader};
+use ord_types::{Halt, Header, List, MOST_HEADERS, MOST_MEMBERS, Reader};
 use std::alloc::Global;
 
 #[tactic(auto, unfolding(crate::specs::Reading::flag_at))]
@@ -136,7 +136,7 @@ fn new_view(reader: &mut Reader, alloc: Global) -> Result<Message, Halt>
 {
     let config = reader.number()?;
     let view = reader.number()?;
-    let count = reader.u8_up_to(31)?;
+    let count = reader.u8_up_to(MOST_MEMBERS as u8)?;
     let reports = signed_reports(reader, alloc, count)?;
     let block = reader.block_or_none(alloc)?;
     Ok(Message::NewView(NewView {
@@ -221,7 +221,7 @@ fn so_many_headers(reader: &mut Reader, alloc: Global, count: u16) -> Result<Lis
 fn header_reply(reader: &mut Reader, alloc: Global) -> Result<Message, Halt>
     ensures { Reads result reader.new (header_reply_at reader.old) }
 {
-    let count = reader.u16_up_to(1_000)?;
+    let count = reader.u16_up_to(MOST_HEADERS as u16)?;
     let headers = so_many_headers(reader, alloc, count)?;
     Ok(Message::HeaderReply(HeaderReply { headers }))
 }

@@ -4,6 +4,7 @@ use Rattle.ord_types.specs.Genesis.{genesis_block}
 use Rattle.ord_types.specs.declared.values.Block.{Block}
 use Rattle.ord_types.specs.declared.values.Config.{Config}
 use Rattle.chan_config.specs.Blocks.{change_in, config_at, config_or}
+pub use Rattle.chan_config.proofs.PlaceLaws.{config_stays}
 use Rattle.block_ledger.specs.Chains.{Entry, blocks_in, genesis_entry}
 use Rattle.block_ledger.specs.Places.{first_place, next_place, place_after, start_after, start_behind, tip_after}
 
@@ -31,12 +32,6 @@ moves_by_one c chain e = rw (config_more c chain e, start_more 1 chain e, tip_mo
 pub begins_at_first : (c : Config) → place_after c (genesis_entry c ∷ []) ≡ first_place c
 unfolding place_after change_in genesis_block
 begins_at_first c = refl
-
--- no change is ordered yet
-pub config_stays : (c : Config) (blocks : List Block) → config_at c blocks ≡ c
-unfolding change_in
-config_stays c [] = refl
-config_stays c (b ∷ bs) = config_stays c bs
 
 pub config_of_place : (c : Config) (chain : List Entry) → (place_after c chain).config ≡ config_at c (blocks_in chain)
 unfolding place_after

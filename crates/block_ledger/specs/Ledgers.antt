@@ -1,11 +1,13 @@
 -- A ledger and its file.
 use Rattle.std.specs.Prelude.{◌≡◌, ◌⊎◌, ℕ, ◌+◌, List, [], ◌∷◌, ◌++◌, map}
 use Rattle.ord_types.specs.declared.values.Config.{Config}
+use Rattle.ord_types.specs.declared.values.Place.{Place}
 use Rattle.gate_log.specs.Disk.{File, State, MayLeave}
 use Rattle.gate_log.specs.Settled.{IsSettled}
 use Rattle.signer_edge.specs.Accepts.{Accepts}
 use Rattle.block_ledger.specs.Chains.{Entry, IsChain}
 use Rattle.block_ledger.specs.Entries.{HaveSpelling, entry_text}
+use Rattle.block_ledger.specs.Places.{place_after}
 use Rattle.block_ledger.specs.Reading.{Chain, stands_for}
 use Rattle.block_ledger.specs.declared.ledger.Ledger.{Ledger}
 
@@ -16,6 +18,10 @@ blocks_of ledger = ledger.blocks.chain
 -- the configuration that its chain began with: no change is ordered yet, so it is the one in force
 unfoldable pub first_config : Ledger → Config
 first_config ledger = ledger.blocks.place.config
+
+-- where it stands
+abbrev pub stands_at : Ledger → Place
+stands_at ledger = place_after (first_config ledger) (blocks_of ledger)
 
 -- where its file ends: behind the closed gate
 unfoldable pub end_of : Ledger → ℕ

@@ -1,5 +1,5 @@
 -- What a ledger's file stands for.
-use Rattle.std.specs.Prelude.{ℕ, List, [], ◌∷◌, ◌++◌, length, Option, Some, None, Ok, Err}
+use Rattle.std.specs.Prelude.{◌≡◌, ℕ, List, [], ◌∷◌, ◌++◌, length, Option, Some, None, Ok, Err}
 use Rattle.ord_types.specs.declared.values.Config.{Config}
 use Rattle.gate_log.specs.Format.{reading}
 use Rattle.gate_log.specs.declared.reading.Reading.{Reading}
@@ -45,3 +45,7 @@ stands_as accepts c (log_of.Log generation entries) = read_chain accepts c entri
 -- what the bytes of a file stand for
 unfoldable pub stands_for : Accepts → Config → List ℕ → Stored
 stands_for accepts c bytes = stands_as accepts c (reading bytes)
+
+-- The files of a disk keep this chain: the ledger's file stands for it.
+abbrev pub KeepsChain : Accepts → Config → (ℕ → List ℕ) → List Entry → Type 0
+KeepsChain accepts c files chain = stands_for accepts c (files 2) ≡ Chain chain

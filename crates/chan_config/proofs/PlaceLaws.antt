@@ -30,3 +30,13 @@ config_same c b = refl
 pub next_config : (place : Place) (e : Block × Proof) → (next_place place e).config ≡ place.config
 unfolding next_place
 next_config place e = config_same place.config e.0
+
+pub config_stays : (c : Config) (blocks : List Block) → config_at c blocks ≡ c
+unfolding change_in
+config_stays c [] = refl
+config_stays c (b ∷ bs) = config_stays c bs
+
+pub start_stays : (start : ℕ) (blocks : List Block) → start_after start blocks ≡ start
+unfolding change_in
+start_stays start [] = refl
+start_stays start (b ∷ bs) = start_stays start bs

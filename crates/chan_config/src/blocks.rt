@@ -3,28 +3,22 @@ ghost use Rattle.std.specs.Prelude.{◌≡◌, nat_le, length};
 ghost use Rattle.std.specs.List.{list_all};
 ghost use Rattle.chan_config.specs.Blocks.{have_room, has_number, has_room, content_fits, meta_fits};
 
-use ord_types::{Block, Meta, Request, content_hash, meta_hash};
-
-/// No block has this number, or a greater one.
-pub(crate) const MOST_NUMBER: u64 = 1 << 62;
-/// The most requests that the format has room for.
-const MOST_REQUESTS: usize = 1000;
-/// The longest payload that the format has room for, in bytes.
-const LONGEST_PAYLOAD: usize = 65536;
-/// The most ids of a list that the format has room for.
-const MOST_IDS: usize = 31;
+use ord_types::{
+    Block, MOST_MEMBERS, MOST_NUMBER, MOST_PAYLOAD, MOST_REQUESTS, Meta, Request, content_hash,
+    meta_hash,
+};
 
 /// Whether the block has this number, for which the format has room.
 pub(crate) fn has_number(number: u64, block: &Block) -> bool
     ensures { result ≡ has_number number block.now }
 {
-    block.header.number == number && number < MOST_NUMBER
+    block.header.number == number && number <= MOST_NUMBER
 }
 
 fn is_short(request: &Request) -> bool
     ensures { result ≡ nat_le (length request.now.payload) 65536 }
 {
-    request.payload.len() <= LONGEST_PAYLOAD
+    request.payload.len() <= MOST_PAYLOAD
 }
 
 fn are_short(requests: &[Request]) -> bool
@@ -44,7 +38,7 @@ pub fn have_room(requests: &[Request]) -> bool
 pub fn has_room(meta: &Meta) -> bool
     ensures { result ≡ has_room meta.now }
 {
-    meta.blacklist.len() <= MOST_IDS && meta.signers.len() <= MOST_IDS
+    meta.blacklist.len() <= MOST_MEMBERS && meta.signers.len() <= MOST_MEMBERS
 }
 
 /// Whether the header names the hash of the requests.

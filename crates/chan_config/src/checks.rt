@@ -3,9 +3,9 @@ ghost use Rattle.std.specs.Prelude.{◌≡◌, ◌+◌, is_ok};
 ghost use Rattle.chan_config.specs.Blocks.{is_next_at};
 ghost use Rattle.chan_config.specs.Refusals.{checked, refusal_at};
 
-use crate::blocks::{MOST_NUMBER, content_fits, has_number, meta_fits};
+use crate::blocks::{content_fits, has_number, meta_fits};
 use crate::requests::first_unlawful;
-use ord_types::{Block, Config, Digest, Place};
+use ord_types::{Block, Config, Digest, MOST_NUMBER, Place};
 use signer_edge::Verifier;
 use std::alloc::Global;
 
@@ -56,7 +56,7 @@ pub fn refusal(last: &Digest, number: u64, config: &Config, block: &Block) -> Op
 pub fn is_next(last: &Digest, before: u64, config: &Config, block: &Block) -> bool
     ensures { result ≡ is_next_at last.now (before + 1) config.now block.now }
 {
-    before < MOST_NUMBER && refusal(last, before + 1, config, block).is_none()
+    before <= MOST_NUMBER && refusal(last, before + 1, config, block).is_none()
 }
 
 /// Whether the block may come next at the place, and which configuration it brings: none, since no change

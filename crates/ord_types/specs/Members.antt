@@ -1,5 +1,5 @@
 -- Members of a configuration, and how many of them are enough.
-use Rattle.std.specs.Prelude.{ℕ, ◌+◌, ◌-◌, ◌/◌, Bool, true, false, ◌==◌, List, [], ◌∷◌, if◌then◌else◌}
+use Rattle.std.specs.Prelude.{ℕ, ◌+◌, ◌-◌, ◌/◌, Bool, true, false, ◌==◌, List, [], ◌∷◌, length, if◌then◌else◌}
 use Rattle.std.specs.List.{list_any}
 pub use Rattle.ord_types.specs.declared.values.Config.{Config}
 pub use Rattle.ord_types.specs.declared.values.Kind.{Kind}
@@ -12,6 +12,10 @@ fault_bound n = (n - 1) / 3
 -- how many members make a quorum: (n + f + 1) / 2, rounded up (SmartBFT)
 abbrev pub quorum : ℕ → ℕ
 quorum n = (n + fault_bound n + 2) / 2
+
+-- a quorum of a configuration's members
+abbrev pub quorum_of : Config → ℕ
+quorum_of c = quorum (length c.members)
 
 -- more than half of n members: n / 2 rounded down, plus 1 (Ongaro and Ousterhout 2014)
 abbrev pub majority : ℕ → ℕ

@@ -5,6 +5,7 @@ mod fault;
 mod genesis;
 mod hashes;
 mod layouts;
+mod limits;
 mod lists;
 mod members;
 mod memory;
@@ -28,6 +29,7 @@ pub use layouts::{
     write_block, write_cert, write_config, write_header, write_meta, write_report, write_request,
     write_requests, write_sig,
 };
+pub use limits::{MOST_HEADERS, MOST_MEMBERS, MOST_NUMBER, MOST_PAYLOAD, MOST_REQUESTS};
 pub use lists::{Bytes, Copied, List, NoMemory};
 pub use members::{fault_bound, majority, quorum};
 pub use memory::{MemSink, MemSource};

@@ -6,13 +6,11 @@ ghost use Rattle.ord_types.specs.Faults.{Reads, ReadsAs};
 ghost use Rattle.ord_types.specs.Reading.{number_at, bytes_at, digest_at, below_at, count_at, tested_at};
 
 use crate::fault::{Flaw, Halt};
+use crate::limits::MOST_NUMBER;
 use crate::lists::Bytes;
 use crate::values::Digest;
 use std::alloc::Global;
 use std::marker::Model;
-
-/// No number, view, term or number of a configuration reaches this.
-pub(crate) const MOST_NUMBER: u64 = 1 << 62;
 
 /// The bytes that are left to read. Each call reads a field from their front; one that answers a halt ends
 /// the reading.
@@ -127,7 +125,7 @@ impl<'a> Reader<'a> {
     {
         let left = self.left();
         let number = self.u64()?;
-        if number < MOST_NUMBER {
+        if number <= MOST_NUMBER {
             Ok(number)
         } else {
             Err(bad(left))

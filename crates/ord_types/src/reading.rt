@@ -35,8 +35,9 @@ ghost use Rattle.std.specs.Int.{w8, w32};
 ghost use Rattle.ord_types.specs.Members.{is_in};
 
 use crate::fault::Halt;
+use crate::limits::{MOST_MEMBERS, MOST_NUMBER, MOST_PAYLOAD, MOST_REQUESTS};
 use crate::lists::List;
-use crate::reader::{MOST_NUMBER, Reader, bad};
+use crate::reader::{Reader, bad};
 use crate::values::{
     Batch, Block, Cert, Config, Header, Kind, Last, Meta, Mode, Proof, Report, ReqId, ReqKind,
     Request, Sig, Vote,
@@ -121,7 +122,7 @@ impl<'a> Reader<'a> {
     pub fn ids(&mut self, alloc: Global, fewest: u8) -> Result<List<u32>, Halt>
         ensures { Reads result self.new (ids_at fewest self.old) }
     {
-        let count = self.u8_within(fewest, 31)?;
+        let count = self.u8_within(fewest, MOST_MEMBERS as u8)?;
         self.ascending(alloc, count)
     }
 
@@ -130,7 +131,7 @@ impl<'a> Reader<'a> {
     pub fn order(&mut self, alloc: Global) -> Result<List<u32>, Halt>
         ensures { Reads result self.new (order_at self.old) }
     {
-        let count = self.u8_up_to(31)?;
+        let count = self.u8_up_to(MOST_MEMBERS as u8)?;
         self.differing(alloc, count)
     }
 
@@ -200,7 +201,7 @@ impl<'a> Reader<'a> {
         ensures { Reads result self.new (cert_at self.old) }
     {
         let view = self.number()?;
-        let count = self.u8_up_to(31)?;
+        let count = self.u8_up_to(MOST_MEMBERS as u8)?;
         let sigs = self.sigs(alloc, count)?;
         Ok(Cert { view, sigs })
     }
@@ -213,7 +214,7 @@ impl<'a> Reader<'a> {
         let kind = self.request_kind()?;
         let client = self.u32()?;
         let serial = self.u64()?;
-        let length = self.u32_up_to(65_536)?;
+        let length = self.u32_up_to(MOST_PAYLOAD as u32)?;
         let payload = self.bytes(alloc, length as usize)?;
         Ok(Request {
             kind,
@@ -238,7 +239,7 @@ impl<'a> Reader<'a> {
     pub fn requests(&mut self, alloc: Global) -> Result<List<Request>, Halt>
         ensures { Reads result self.new (requests_at self.old) }
     {
-        let count = self.u32_up_to(1_000)?;
+        let count = self.u32_up_to(MOST_REQUESTS as u32)?;
         self.so_many_requests(alloc, count)
     }
 
@@ -331,7 +332,7 @@ impl<'a> Reader<'a> {
     pub fn vote(&mut self) -> Result<Vote, Halt>
         ensures { Reads result self.new (vote_at self.old) }
     {
-        self.vote_below(MOST_NUMBER)
+        self.vote_below(MOST_NUMBER + 1)
     }
 
     /// A vote behind a flag, where there is one.
@@ -351,7 +352,7 @@ impl<'a> Reader<'a> {
         ensures { Reads result self.new (votes_at (2 ^ 62) count self.old) }
     {
         let mut votes = List::new(alloc);
-        let mut limit = MOST_NUMBER;
+        let mut limit = MOST_NUMBER + 1;
         for _ in 0..count {
             let vote = self.vote_below(limit)?;
             limit = vote.view;

@@ -41,6 +41,35 @@ sent 27
                 .as_slice(),
         ),
         (
+            b"genesis bft 1,2,3,4 batch=1
+submit 1 1 1 aa
+stop-at 1 4 drop
+tick 1
+start 1
+submit 1 1 2 bb
+tick 1
+flush
+",
+            b"1 genesis
+2 submit 1 admitted
+3 stop-at 1
+4 stopped 1
+5 start 1
+6 submit 1 admitted
+7 tick 1
+8 block 1 1 config 0 view 0 requests 1 first 1:2 signers 1,3,4
+8 block 2 1 config 0 view 0 requests 1 first 1:2 signers 2,3,4
+8 block 3 1 config 0 view 0 requests 1 first 1:2 signers 1,3,4
+8 block 4 1 config 0 view 0 requests 1 first 1:2 signers 1,3,4
+8 flush 27
+node 1 height 2 config 0 view 0 left 0
+node 2 height 2 config 0 view 0 left 0
+node 3 height 2 config 0 view 0 left 0
+node 4 height 2 config 0 view 0 left 0
+sent 27
+",
+        ),
+        (
             b"genesis bft 1,2,3,4 batch=1 byz=4
 stop 2 drop
 tick 2

@@ -3,7 +3,8 @@ use Rattle.std.proofs.Common.{◌≡◌, ℕ, zero, suc, ◌≤◌, ◌<◌, Lis
 use Rattle.std.proofs.lemmas.Bool.{cases_lt}
 use Rattle.std.proofs.lemmas.List.{get_or_append_left, get_or_push, take-append-le, length-append}
 use Rattle.std.proofs.Math.Seq.{take-append_seam}
-use Rattle.safety_model.specs.Blocks.{Block, Config, change_in, config_at}
+pub use Rattle.chan_config.proofs.PlaceLaws.{config_stays}
+use Rattle.safety_model.specs.Blocks.{Block, Config, config_at}
 use Rattle.safety_model.specs.Facts.{Fact, Proof, History, Stands}
 use Rattle.safety_model.specs.declared.fact.Fact.TheVariants.{Delivered}
 use Rattle.safety_model.specs.State.{Setup, delivered, delivered_by}
@@ -11,12 +12,6 @@ use Rattle.safety_model.specs.Rules.{Allowed, IsRun, actor, tests, tests_under}
 use Rattle.safety_model.proofs.Moments.{WasOnce, now}
 use Rattle.safety_model.proofs.Deliveries.{adds, IsOnlyConfig}
 use Rattle.safety_model.proofs.Deliveries.Adds.{Nothing, One}
-
--- no block changes the configuration yet
-pub config_stays : (c : Config) (bs : List Block) → config_at c bs ≡ c
-unfolding change_in
-config_stays c [] = refl
-config_stays c (b ∷ bs) = config_stays c bs
 
 pub tests_are : (su : Setup) (h : History) (f : Fact) → tests su h f ≡ tests_under su h su.config f
 tests_are su h f = ap (λ (c : Config). tests_under su h c f) (config_stays su.config (delivered (actor f) h))

@@ -1,5 +1,5 @@
 -- What correct nodes did: one fact for each act, the newest first.
-use Rattle.std.specs.Prelude.{◌≡◌, ℕ, Bool, false, ◌&&◌, ◌==◌, not, List, [], ◌∷◌, ◌⊎◌, map}
+use Rattle.std.specs.Prelude.{◌≡◌, ℕ, Bool, false, ◌&&◌, ◌==◌, not, List, [], ◌∷◌, ◌⊎◌}
 use Rattle.std.specs.List.{list_any}
 use Rattle.std.specs.Str.{bytes_eq}
 pub use Rattle.ord_types.specs.declared.values.Cert.{Cert}
@@ -10,6 +10,7 @@ pub use Rattle.ord_types.specs.declared.values.Report.{Report}
 pub use Rattle.ord_types.specs.declared.values.Sig.{Sig}
 pub use Rattle.ord_types.specs.declared.values.Vote.{Vote}
 use Rattle.ord_types.specs.declared.values.Choice.TheVariants.{Carry, Free, Neither}
+pub use Rattle.signer_edge.specs.Certificates.{signers_of}
 pub use Rattle.safety_model.specs.declared.fact.Fact.{Fact}
 use Rattle.safety_model.specs.declared.fact.Fact.TheVariants.{Accepted, Prepared, Reported, Entered}
 
@@ -55,7 +56,3 @@ carries_other d Neither = false
 abbrev pub is_entered_against : ℕ → ℕ → ℕ → ℕ → List ℕ → Fact → Bool
 is_entered_against i e v s d (Entered i' e' v' x choice) = (i' == i) && (e' == e) && (v' == v) && (x == s) && carries_other d choice
 is_entered_against i e v s d _ = false
-
--- who signed a certificate
-abbrev pub signers_of : Cert → List ℕ
-signers_of cert = map (λ (s : Sig). s.signer) cert.sigs

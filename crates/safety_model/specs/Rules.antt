@@ -1,7 +1,8 @@
 -- When a fact is allowed after others. The numbers are those of the table of rules in docs/MODEL.md.
 use Rattle.std.specs.Prelude.{ℕ, ◌+◌, Bool, false, ◌&&◌, ◌||◌, ◌==◌, nat_lt, nat_le, not, ◌≤◌, List, [], ◌∷◌, ◌++◌, length, Option, Some, None, IsTrue, if◌then◌else◌, ⊤}
 use Rattle.std.specs.List.{list_all, AllByRecursion}
-use Rattle.ord_types.specs.Members.{fault_bound, how_many, how_many_in, is_in, is_raft, quorum}
+pub use Rattle.ord_types.specs.Members.{quorum_of}
+use Rattle.ord_types.specs.Members.{fault_bound, how_many, how_many_in, is_in, is_raft}
 use Rattle.ord_types.specs.Hashes.{block_hash}
 use Rattle.ord_types.specs.declared.values.Proof.TheVariants as proof_of
 use Rattle.ord_types.specs.declared.values.Choice.TheVariants.{Carry, Free, Neither}
@@ -11,10 +12,7 @@ use Rattle.safety_model.specs.declared.fact.Fact.TheVariants.{Accepted, Prepared
 use Rattle.safety_model.specs.Reports.{is_true_report, tells_accepted, tells_at_most, tells_none}
 use Rattle.safety_model.specs.State.{Setup, height, tip, config_of, is_inside, last_delivered, left, view}
 
--- how many members make a quorum of the configuration, and how many of it may be Byzantine
-abbrev pub quorum_of : Config → ℕ
-quorum_of c = quorum (length c.members)
-
+-- how many members of the configuration may be Byzantine
 abbrev pub bound_of : Config → ℕ
 bound_of c = fault_bound (length c.members)
 

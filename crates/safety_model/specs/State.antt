@@ -1,5 +1,5 @@
 -- What a node's facts say of its state.
-use Rattle.std.specs.Prelude.{ℕ, ◌+◌, Bool, ◌&&◌, ◌==◌, nat_le, max, List, [], ◌∷◌, ◌++◌, length, Option, Some, None, if◌then◌else◌}
+use Rattle.std.specs.Prelude.{ℕ, ◌+◌, Bool, false, ◌&&◌, ◌==◌, nat_le, max, List, [], ◌∷◌, ◌++◌, length, Option, Some, None, if◌then◌else◌}
 use Rattle.safety_model.specs.Blocks.{Block, Config, config_at}
 use Rattle.safety_model.specs.Facts.{Proof, Fact, History}
 use Rattle.safety_model.specs.declared.fact.Fact.TheVariants.{Left, Entered, Delivered}
@@ -72,3 +72,9 @@ left i e (f ∷ h) = max (left_view i e f) (left i e h)
 -- it is inside view v
 abbrev pub is_inside : ℕ → ℕ → ℕ → History → Bool
 is_inside i e v h = (view i e h == v) && nat_le (left i e h) v
+
+-- the fact is of node i leaving its view or entering one
+abbrev pub changes_view : ℕ → Fact → Bool
+changes_view i (Left j e v) = j == i
+changes_view i (Entered j e v x choice) = j == i
+changes_view i _ = false

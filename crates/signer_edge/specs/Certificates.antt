@@ -1,10 +1,10 @@
 -- Certificates: a quorum's signatures on one block (SmartBFT).
-use Rattle.std.specs.Prelude.{ℕ, ◌≤◌, Bool, ◌&&◌, not, nat_le, nat_lt, List, [], ◌∷◌, length, map, All, IsTrue, if◌then◌else◌, Option, Some, None}
+use Rattle.std.specs.Prelude.{ℕ, ◌≤◌, Bool, ◌&&◌, not, nat_le, nat_lt, List, [], ◌∷◌, map, All, IsTrue, if◌then◌else◌, Option, Some, None}
 use Rattle.std.specs.List.{list_all}
 use Rattle.std.specs.Option.{option_or}
 use Rattle.ord_types.specs.declared.values.Cert.{Cert}
 use Rattle.ord_types.specs.declared.values.Config.{Config}
-use Rattle.ord_types.specs.Members.{quorum, is_in, how_many_in}
+use Rattle.ord_types.specs.Members.{quorum_of, is_in, how_many_in}
 use Rattle.ord_types.specs.declared.values.Sig.{Sig}
 use Rattle.signer_edge.specs.Accepts.{Accepts}
 use Rattle.signer_edge.specs.Statements.{commit_text}
@@ -26,13 +26,13 @@ cert_statement c number hash cert = commit_text c.number cert.view number hash
 pub record IsCertificate (accepts : Accepts) (c : Config) (number : ℕ) (hash : List ℕ) (cert : Cert) : Type 0 where
   pub members : All (λ signer. IsTrue (is_in signer c.members)) (signers_of cert)
   pub accepted : All (λ sig. IsTrue (accepts (cert_statement c number hash cert) sig)) cert.sigs
-  pub enough : quorum (length c.members) ≤ how_many_in (signers_of cert) c.members
+  pub enough : quorum_of c ≤ how_many_in (signers_of cert) c.members
 
 -- the test of it
 abbrev pub is_good_cert : Accepts → Config → ℕ → List ℕ → Cert → Bool
 is_good_cert accepts c number hash cert =
     list_all (λ sig. is_in sig.signer c.members && accepts (cert_statement c number hash cert) sig) cert.sigs
-    && nat_le (quorum (length c.members)) (how_many_in (signers_of cert) c.members)
+    && nat_le (quorum_of c) (how_many_in (signers_of cert) c.members)
 
 -- what is wrong with a signature
 abbrev pub sig_refusal : Accepts → List ℕ → List ℕ → Sig → Option CertRefusal
@@ -55,4 +55,4 @@ abbrev pub cert_refusal : Accepts → Config → ℕ → List ℕ → Cert → O
 cert_refusal accepts c number hash cert =
     option_or
     (sigs_refusal accepts c.members (cert_statement c number hash cert) cert.sigs)
-    (few_refusal (how_many_in (signers_of cert) c.members) (quorum (length c.members)))
+    (few_refusal (how_many_in (signers_of cert) c.members) (quorum_of c))

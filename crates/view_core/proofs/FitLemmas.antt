@@ -11,7 +11,6 @@ use Rattle.bft_wire.specs.declared.reason.Reason.{Reason}
 use Rattle.ord_types.specs.Hashes.{block_hash}
 use Rattle.ord_types.specs.Lengths.{FitsBlock, FitsCert, FitsSig}
 use Rattle.ord_types.specs.Members.{is_raft}
-use Rattle.ord_types.specs.declared.lists.NoMemory.{NoMemory}
 use Rattle.ord_types.specs.declared.values.Block.{Block}
 use Rattle.ord_types.specs.declared.values.Place.{Place}
 use Rattle.ord_types.specs.declared.values.Request.{Request}
@@ -19,7 +18,7 @@ use Rattle.ord_types.specs.declared.values.Sig.{Sig}
 use Rattle.chan_config.proofs.Fitting.{next_fits}
 use Rattle.signer_edge.specs.Accepts.{Accepts}
 use Rattle.view_model.specs.Acts.{View, acceptance_due, accept_act, block_if, carried_cert, certificate, commits, deliver_act, delivery_due, delivery_if, due, first_of, is_acceptable, is_inside_view, is_voting, kept_proposal, kept_sig, may_propose, preparation_due, prepare_act, proposal, proposed, quorum_of, sig_in, sig_of}
-use Rattle.view_model.specs.Answers.{accepts_nothing, act_or, at_place, due_answer, first_reason, fresh, is_near, is_new, is_same_config, keep, kept_after, kept_or, message_reasons, offer_reasons, own_reasons, prepare_answer, propose_answer, raised, reason_or, stands_outside, vote_answer}
+use Rattle.view_model.specs.Answers.{accepts_nothing, act_or, after_act, at_place, due_answer, first_reason, fresh, is_near, is_new, is_same_config, keep, kept_after, kept_or, message_reasons, offer_reasons, own_reasons, prepare_answer, propose_answer, raised, reason_or, stands_outside, vote_answer}
 use Rattle.view_model.specs.Checks.{is_block_of_view, is_carried_good, is_next_block, signers_carried}
 use Rattle.view_model.specs.Leading.{is_at_start, leader, meta_eq, next_meta}
 use Rattle.view_model.specs.Letters.{is_commit_for}
@@ -29,9 +28,11 @@ use Rattle.view_model.specs.declared.act.Act.{Act}
 use Rattle.view_model.specs.declared.letter.Letter.{Letter}
 use Rattle.view_model.specs.declared.letter.VoteMessage.{VoteMessage}
 use Rattle.view_model.specs.declared.letter.VoteMessage.TheVariants as message_of
+use Rattle.view_core.specs.Calls.{IsAnswered, IsTaken}
 use Rattle.view_core.specs.Fits.{FitsAct}
 use Rattle.view_core.specs.Held.{IsHeld, are_short, is_held, is_short}
 use Rattle.view_core.specs.Places.{IsPlace}
+use Rattle.view_core.proofs.AnswerLemmas.{answered}
 
 -- WHAT IS HELD
 
@@ -202,11 +203,23 @@ pub kept_short : (config : ℕ) (members : List ℕ) (view height : ℕ) (kept l
 kept_short config members view height kept letters h same = subst (λ ls. are_short ls ≡ true) same (held_short config members view height kept h.held)
 
 -- an answer that fits is one of an act that fits
-pub IfOk-fits : (r : Result Act NoMemory) (answer : Act) → IfOk r (λ act. act ≡ answer) → FitsAct answer → IfOk r FitsAct
+IfOk-fits : {E : Type 0} (r : Result Act E) (answer : Act) → IfOk r (λ act. act ≡ answer) → FitsAct answer → IfOk r FitsAct
 IfOk-fits (Ok act) answer is h = subst FitsAct (sym is) h
 IfOk-fits (Err e) answer is h = tt
 
 -- the two ways to say a fact of the value that there may be
+
+-- a call that takes an act at its place answers it
+pub answered_from : {E : Type 0} (r : Result Act E) (act : Act) (new held placed : View) → IsTaken r act new held placed
+    → FitsAct act → IsAnswered r act new (after_act act held) placed
+answered_from r act new held placed taken fits =
+    record {
+      answer = taken.answer;
+      fits = IfOk-fits r act taken.answer fits;
+      after = answered r act new held taken.answer taken.after;
+      err = taken.err;
+    }
+
 pub IfSome-from_ForSome : {A : Type 0} (o : Option A) (P : A → Type 0) → ForSome o P → IfSome o P
 IfSome-from_ForSome None P h = tt
 IfSome-from_ForSome (Some x) P h = h x refl

@@ -25,4 +25,5 @@ pub record StandsAt (place : Place) (w : View) : Type 0 where
 
 -- why the node may not propose, whatever is offered
 abbrev pub turn_reasons : Place → View → Reasons
-turn_reasons place w = (not (leader place w.view == w.me), reason.NotLeader) ∷ (is_some w.accepted, reason.Accepted) ∷ []
+turn_reasons place w =
+    (not (leader place w.view == w.me), reason.NotLeader) ∷ (is_some w.accepted, reason.Accepted) ∷ []

@@ -1,6 +1,5 @@
 //! The calls on a view: what is due, and what a message or an offer brings.
 ghost use Rattle.std.specs.Prelude.{◌≡◌, ◌++◌, IfOk, OnOk, OnErr, false, IsTrue};
-ghost use Rattle.view_model.specs.declared.letter.VoteMessage.TheVariants as message_of;
 ghost use Rattle.bft_wire.specs.declared.reason.Reason.TheVariants as reason;
 ghost use Rattle.view_model.specs.declared.act.Act.TheVariants as act_of;
 ghost use Rattle.view_model.specs.Acts.{due, preparation_due, prepare_act};
@@ -31,8 +30,17 @@ ghost use Rattle.view_model.specs.Answers.{
   vote_answer,
 };
 ghost use Rattle.ord_types.specs.Lengths.{FitsSig};
+ghost use Rattle.view_core.specs.Calls.{
+  IsAnswered,
+  IsTaken,
+  IsVoteAnswered,
+  commit_from,
+  prepare_from,
+  preprepare_from,
+  vote_reasons,
+};
 ghost use Rattle.view_core.specs.Fits.{FitsAct};
-ghost use Rattle.view_core.specs.Held.{is_held, is_short};
+ghost use Rattle.view_core.specs.Held.{is_short, may_hold};
 ghost use Rattle.view_core.specs.Places.{IsPlace, StandsAt, turn_reasons};
 
 use crate::blocks::{is_block_of_view, is_carried_good};
@@ -42,9 +50,9 @@ use crate::held::{Accepted, ViewState};
 use crate::keeping::{has_slot, is_raft, is_signed, outside};
 use crate::proposals::proposed_block;
 use bft_wire::{Commit, PrePrepare, Prepare, Reason};
-use view_model::{Act, Letter, VoteMessage};
 use ord_types::{Block, Copied, List, NoMemory, Place, Request, block_hash};
 use signer_edge::Verifier;
+use view_model::{Act, Letter, VoteMessage};
 
 impl ViewState {
     /// Takes the block as accepted.
@@ -59,9 +67,13 @@ impl ViewState {
     }
 
     /// The first of accept, prepare and deliver that is due. It stands as done from then on.
-    fn told<V: Verifier>(&mut self, place: &Place, verifier: &V) -> Result<Option<Act>, NoMemory>
+    fn take_due<V: Verifier>(
+        &mut self,
+        place: &Place,
+        verifier: &V,
+    ) -> Result<Option<Act>, NoMemory>
         requires { IsPlace place.now }
-        ensures told { IfOk result (λ act. act ≡ due (V.accepts verifier.now) place.now self.old) }
+        ensures act { IfOk result (λ act. act ≡ due (V.accepts verifier.now) place.now self.old) }
         ensures after { IfOk result (λ act. self.new ≡ after_told act self.old) }
         ensures err { OnErr result (self.new ≡ self.old) }
     {
@@ -80,18 +92,18 @@ impl ViewState {
     }
 
     /// The act that is due, or else the reason for none.
-    fn told_or<V: Verifier>(
+    fn take_due_or<V: Verifier>(
         &mut self,
         place: &Place,
         verifier: &V,
         other: Reason,
     ) -> Result<Act, NoMemory>
         requires { IsPlace place.now }
-        ensures act { IfOk result (λ act. act ≡ act_or (due (V.accepts verifier.now) place.now self.old) (act_of.Nothing other)) }
-        ensures after { IfOk result (λ act. self.new ≡ after_act act self.old) }
-        ensures err { OnErr result (self.new ≡ self.old) }
+        ensures { IsTaken result
+            (act_or (due (V.accepts verifier.now) place.now self.old) (act_of.Nothing other))
+            self.new self.old self.old }
     {
-        match self.told(place, verifier)? {
+        match self.take_due(place, verifier)? {
             Some(act) => Ok(act),
             None => Ok(Act::Nothing(other)),
         }
@@ -109,7 +121,7 @@ impl ViewState {
 
     /// Keeps a message, for which there is room.
     fn keep(&mut self, letter: Letter)
-        requires held { IsTrue (is_held self.old.config self.old.members self.old.view self.old.height letter) }
+        requires held { IsTrue (may_hold self.old letter) }
         requires new { is_repeat self.old letter ≡ false }
         ensures { self.new ≡ keep letter self.old }
     {
@@ -125,7 +137,10 @@ impl ViewState {
         verifier: &V,
     ) -> Reason
         requires { IsPlace place.now }
-        ensures { act_of.Nothing result ≡ reason_or (first_reason (proposal_reasons (V.accepts verifier.now) place.now self.now from message.now)) reason.Repeat }
+        ensures { act_of.Nothing result
+            ≡ reason_or (first_reason
+            (proposal_reasons (V.accepts verifier.now) place.now self.now from message.now))
+            reason.Repeat }
     {
         if from != leader(place, self.view) {
             Reason::NotLeader
@@ -143,7 +158,9 @@ impl ViewState {
     /// Why a message that isn't newly kept brings nothing.
     fn refusal<V: Verifier>(&self, place: &Place, letter: &Letter, verifier: &V) -> Reason
         requires { IsPlace place.now }
-        ensures { act_of.Nothing result ≡ reason_or (first_reason (stands_outside place.now self.now letter.now ++ message_reasons (V.accepts verifier.now) place.now self.now letter.now.from letter.now.message)) reason.Repeat }
+        ensures { act_of.Nothing result
+            ≡ reason_or (first_reason (vote_reasons (V.accepts verifier.now) place.now self.now letter.now))
+            reason.Repeat }
     {
         if let Some(reason) = outside(place, self.view, self.left, letter) {
             return reason;
@@ -175,14 +192,14 @@ impl ViewState {
         verifier: &V,
     ) -> Result<Act, NoMemory>
         requires place { IsPlace place.now }
-        requires held { IsTrue (is_held self.old.config self.old.members self.old.view self.old.height letter) }
+        requires held { IsTrue (may_hold self.old letter) }
         requires new { is_repeat self.old letter ≡ false }
-        ensures act { IfOk result (λ act. act ≡ act_or (due (V.accepts verifier.now) place.now (keep letter self.old)) act_of.Kept) }
-        ensures after { IfOk result (λ act. self.new ≡ after_act act (keep letter self.old)) }
-        ensures err { OnErr result (self.new ≡ self.old) }
+        ensures { IsTaken result
+            (act_or (due (V.accepts verifier.now) place.now (keep letter self.old)) act_of.Kept)
+            self.new (keep letter self.old) self.old }
     {
         self.keep(letter);
-        match self.told(place, verifier) {
+        match self.take_due(place, verifier) {
             Ok(Some(act)) => Ok(act),
             Ok(None) => Ok(Act::Kept),
             Err(fault) => {
@@ -202,15 +219,14 @@ impl ViewState {
         requires place { IsPlace place.now }
         requires stands { StandsAt place.now self.old }
         requires short { IsTrue (is_short letter.message) }
-        ensures answer { IfOk result (λ act. act ≡ vote_answer (V.accepts verifier.now) place.now self.old letter) }
-        ensures after { IfOk result (λ act. self.new ≡ after_act act (kept_after (V.accepts verifier.now) place.now self.old letter)) }
-        ensures err { OnErr result (self.new ≡ self.old) }
+        ensures { IsTaken result (vote_answer (V.accepts verifier.now) place.now self.old letter)
+            self.new (kept_after (V.accepts verifier.now) place.now self.old letter) self.old }
     {
         if self.is_new(place, &letter, verifier) {
             return self.new_vote(place, letter, verifier);
         }
         let reason = self.refusal(place, &letter, verifier);
-        self.told_or(place, verifier, reason)
+        self.take_due_or(place, verifier, reason)
     }
 
     /// What a vote message brings.
@@ -222,10 +238,7 @@ impl ViewState {
     ) -> Result<Act, NoMemory>
         requires place { IsPlace place.now }
         requires short { IsTrue (is_short letter.message) }
-        ensures answer { IfOk result (λ act. act ≡ vote_answer (V.accepts verifier.now) place.now (at_place place.now self.old) letter) }
-        ensures fits { IfOk result FitsAct }
-        ensures after { OnOk result (self.new ≡ after_vote (V.accepts verifier.now) place.now self.old letter) }
-        ensures err { OnErr result (self.new ≡ at_place place.now self.old) }
+        ensures { IsVoteAnswered (V.accepts verifier.now) place.now self.old self.new letter result }
     {
         self.settle(place);
         self.placed_vote(place, letter, verifier)
@@ -241,10 +254,8 @@ impl ViewState {
         verifier: &V,
     ) -> Result<Act, NoMemory>
         requires { IsPlace place.now }
-        ensures answer { IfOk result (λ act. act ≡ vote_answer (V.accepts verifier.now) place.now (at_place place.now self.old) (record { from = from; message = message_of.PrePrepare message })) }
-        ensures fits { IfOk result FitsAct }
-        ensures after { OnOk result (self.new ≡ after_vote (V.accepts verifier.now) place.now self.old (record { from = from; message = message_of.PrePrepare message })) }
-        ensures err { OnErr result (self.new ≡ at_place place.now self.old) }
+        ensures { IsVoteAnswered (V.accepts verifier.now) place.now self.old self.new
+            (preprepare_from from message) result }
     {
         let message = VoteMessage::PrePrepare(message);
         self.vote(place, Letter { from, message }, verifier)
@@ -261,10 +272,8 @@ impl ViewState {
     ) -> Result<Act, NoMemory>
         requires place { IsPlace place.now }
         requires sig { FitsSig message.sig }
-        ensures answer { IfOk result (λ act. act ≡ vote_answer (V.accepts verifier.now) place.now (at_place place.now self.old) (record { from = from; message = message_of.Commit message })) }
-        ensures fits { IfOk result FitsAct }
-        ensures after { OnOk result (self.new ≡ after_vote (V.accepts verifier.now) place.now self.old (record { from = from; message = message_of.Commit message })) }
-        ensures err { OnErr result (self.new ≡ at_place place.now self.old) }
+        ensures { IsVoteAnswered (V.accepts verifier.now) place.now self.old self.new
+            (commit_from from message) result }
     {
         let message = VoteMessage::Commit(message);
         self.vote(place, Letter { from, message }, verifier)
@@ -274,8 +283,12 @@ impl ViewState {
     fn keep_prepare(&mut self, place: &Place, from: u32, message: &Prepare) -> Act
         requires place { IsPlace place.now }
         requires stands { StandsAt place.now self.old }
-        ensures answer { result ≡ kept_or (is_new accepts_nothing place.now self.old (record { from = from; message = message_of.Prepare message.now })) (first_reason (stands_outside place.now self.old (record { from = from; message = message_of.Prepare message.now }))) reason.Repeat }
-        ensures after { self.new ≡ kept_after accepts_nothing place.now self.old (record { from = from; message = message_of.Prepare message.now }) }
+        ensures answer { result
+            ≡ kept_or (is_new accepts_nothing place.now self.old (prepare_from from message.now))
+            (first_reason (stands_outside place.now self.old (prepare_from from message.now)))
+            reason.Repeat }
+        ensures after { self.new
+            ≡ kept_after accepts_nothing place.now self.old (prepare_from from message.now) }
     {
         let message = VoteMessage::Prepare(*message);
         let letter = Letter { from, message };
@@ -308,9 +321,10 @@ impl ViewState {
     /// that holds. It takes no memory.
     pub fn on_prepare(&mut self, place: &Place, from: u32, message: &Prepare) -> Act
         requires { IsPlace place.now }
-        ensures answer { result ≡ prepare_answer place.now (at_place place.now self.old) (record { from = from; message = message_of.Prepare message.now }) }
+        ensures answer { result
+            ≡ prepare_answer place.now (at_place place.now self.old) (prepare_from from message.now) }
         ensures fits { FitsAct result }
-        ensures after { self.new ≡ after_prepare place.now self.old (record { from = from; message = message_of.Prepare message.now }) }
+        ensures after { self.new ≡ after_prepare place.now self.old (prepare_from from message.now) }
     {
         self.settle(place);
         let other = self.keep_prepare(place, from, message);
@@ -352,9 +366,7 @@ impl ViewState {
     /// Proposes in a view that stands at the place.
     fn placed_proposal(&mut self, place: &Place, offer: List<Request>) -> Result<Act, NoMemory>
         requires { IsPlace place.now }
-        ensures answer { IfOk result (λ act. act ≡ propose_answer place.now self.old offer) }
-        ensures after { IfOk result (λ act. self.new ≡ after_act act self.old) }
-        ensures err { OnErr result (self.new ≡ self.old) }
+        ensures { IsTaken result (propose_answer place.now self.old offer) self.new self.old self.old }
     {
         if let Some(reason) = self.turn_refusal(place) {
             return Ok(Act::Nothing(reason));
@@ -380,10 +392,8 @@ impl ViewState {
         _verifier: &V,
     ) -> Result<Act, NoMemory>
         requires { IsPlace place.now }
-        ensures answer { IfOk result (λ act. act ≡ propose_answer place.now (at_place place.now self.old) offer) }
-        ensures fits { IfOk result FitsAct }
-        ensures after { OnOk result (self.new ≡ after_propose place.now self.old offer) }
-        ensures err { OnErr result (self.new ≡ at_place place.now self.old) }
+        ensures { IsAnswered result (propose_answer place.now (at_place place.now self.old) offer)
+            self.new (after_propose place.now self.old offer) (at_place place.now self.old) }
     {
         self.settle(place);
         self.placed_proposal(place, offer)
@@ -393,13 +403,12 @@ impl ViewState {
     /// memory the view is at the place.
     pub fn due<V: Verifier>(&mut self, place: &Place, verifier: &V) -> Result<Act, NoMemory>
         requires { IsPlace place.now }
-        ensures answer { IfOk result (λ act. act ≡ due_answer (V.accepts verifier.now) place.now (at_place place.now self.old)) }
-        ensures fits { IfOk result FitsAct }
-        ensures after { OnOk result (self.new ≡ after_due (V.accepts verifier.now) place.now self.old) }
-        ensures err { OnErr result (self.new ≡ at_place place.now self.old) }
+        ensures { IsAnswered result
+            (due_answer (V.accepts verifier.now) place.now (at_place place.now self.old))
+            self.new (after_due (V.accepts verifier.now) place.now self.old) (at_place place.now self.old) }
     {
         self.settle(place);
         let other = self.own_refusal(place).unwrap_or(Reason::NotYet);
-        self.told_or(place, verifier, other)
+        self.take_due_or(place, verifier, other)
     }
 }

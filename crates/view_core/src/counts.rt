@@ -13,9 +13,9 @@ ghost use Rattle.view_model.specs.Acts.{
 };
 
 use bft_wire::PrePrepare;
-use view_model::{Letter, VoteMessage};
 use ord_types::{Copied, Digest, List, NoMemory, Sig};
 use std::alloc::Global;
+use view_model::{Letter, VoteMessage};
 
 pub(crate) fn is_among(ids: &[u32], id: u32) -> bool
     ensures { result ≡ is_in id ids.now }

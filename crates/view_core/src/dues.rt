@@ -1,7 +1,15 @@
 //! What is due in a view, and where the view stands.
 ghost use Rattle.std.specs.Prelude.{◌≡◌, ◌≤◌, ◌&&◌, IfOk, length, nat_le, vec_capacity, IsTrue};
 ghost use Rattle.view_model.specs.Leading.{leader};
-ghost use Rattle.view_model.specs.Acts.{acceptance_due, commits, delivery_due, is_inside_view, is_voting, preparation_due, quorum_of};
+ghost use Rattle.view_model.specs.Acts.{
+  acceptance_due,
+  commits,
+  delivery_due,
+  is_inside_view,
+  is_voting,
+  preparation_due,
+  quorum_of,
+};
 ghost use Rattle.view_model.specs.Checks.{is_next_block};
 ghost use Rattle.view_model.specs.Answers.{at_place, fresh, raised};
 ghost use Rattle.view_core.specs.Held.{are_short};
@@ -146,7 +154,9 @@ impl ViewState {
     /// Whether the accepted block is to be delivered.
     fn is_delivery_due(&self, place: &Place, accepted: &Accepted) -> bool
         requires { IsPlace place.now }
-        ensures { result ≡ (nat_le (quorum_of place.now.config) (length (commits place.now self.now accepted.now.digest)) && is_next_block place.now accepted.now.block) }
+        ensures { result
+            ≡ (nat_le (quorum_of place.now.config) (length (commits place.now self.now accepted.now.digest))
+            && is_next_block place.now accepted.now.block) }
     {
         let members = place.config.members.as_slice();
         let votes = commit_count(

@@ -6,10 +6,10 @@ ghost use Rattle.view_model.specs.Acts.{View};
 ghost use Rattle.view_model.specs.Answers.{unplaced};
 ghost use Rattle.view_core.specs.Held.{IsHeld, most_kept};
 
-use view_model::Letter;
 use ord_types::{Block, Digest, NoMemory};
 use std::alloc::Global;
 use std::marker::Model;
+use view_model::Letter;
 
 /// The most members of a configuration.
 const MOST_MEMBERS: usize = 31;
@@ -56,7 +56,8 @@ impl Model for ViewState {
     } };
 
     ghost invariant = { λ s.
-        IsHeld s.config s.members.items s.view s.height s.kept.items × (31 ≤ vec_capacity s.members) × (most_kept ≤ vec_capacity s.kept) };
+        IsHeld s.config s.members.items s.view s.height s.kept.items
+        × (31 ≤ vec_capacity s.members) × (most_kept ≤ vec_capacity s.kept) };
 }
 
 impl ViewState {

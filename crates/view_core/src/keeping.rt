@@ -1,17 +1,17 @@
 //! Which vote messages are kept, and why others are not.
-ghost use Rattle.std.specs.Prelude.{◌≡◌, ◌<◌, ◌^◌, ◌==◌, ◌&&◌};
+ghost use Rattle.std.specs.Prelude.{◌≡◌, ◌<◌, ◌^◌};
 ghost use Rattle.std.specs.List.{list_any};
 ghost use Rattle.ord_types.specs.Members.{is_raft};
-ghost use Rattle.signer_edge.specs.Statements.{commit_text};
+ghost use Rattle.view_model.specs.declared.letter.VoteMessage.TheVariants as message_of;
 ghost use Rattle.view_model.specs.Letters.{config_in, kind_of, number_in, same_slot, view_in};
 ghost use Rattle.view_model.specs.Acts.{View};
 ghost use Rattle.view_model.specs.Answers.{first_reason, is_near, is_signed, stands_outside};
 
 use crate::counts::is_among;
 use bft_wire::{Commit, Reason};
-use view_model::{Letter, VoteMessage};
 use ord_types::{Config, Kind, Place};
 use signer_edge::{Verifier, commit_statement};
+use view_model::{Letter, VoteMessage};
 
 pub(crate) fn is_raft(config: &Config) -> bool
     ensures { result ≡ is_raft config.now }
@@ -91,7 +91,7 @@ pub(crate) fn is_near(height: u64, letter: &Letter) -> bool
 
 /// Whether a Commit is signed by its sender.
 fn is_commit_signed<V: Verifier>(from: u32, commit: &Commit, verifier: &V) -> bool
-    ensures { result ≡ (commit.now.sig.signer == from) && V.accepts verifier.now (commit_text commit.now.config commit.now.view commit.now.number commit.now.digest) commit.now.sig }
+    ensures { result ≡ is_signed (V.accepts verifier.now) from (message_of.Commit commit.now) }
 {
     commit.sig.signer == from
         && verifier.verify(
@@ -114,7 +114,8 @@ pub(crate) fn is_signed<V: Verifier>(letter: &Letter, verifier: &V) -> bool
 /// Why a vote message is not one of this view and these numbers.
 pub(crate) fn outside(place: &Place, view: u64, left: u64, letter: &Letter) -> Option<Reason>
     requires { place.now.height < 2 ^ 62 }
-    ensures { (w : View) → w.view ≡ view → w.left ≡ left → result ≡ first_reason (stands_outside place.now w letter.now) }
+    ensures { (w : View) → w.view ≡ view → w.left ≡ left
+        → result ≡ first_reason (stands_outside place.now w letter.now) }
 {
     let number = number_in(&letter.message);
     if !is_among(place.config.members.as_slice(), letter.from) {

@@ -1,4 +1,5 @@
-//! What a member does in one view: it keeps vote messages, and accepts, prepares and delivers blocks (SmartBFT).
+//! What a member does in one view: it keeps vote messages, and accepts, prepares and delivers blocks
+//! (SmartBFT).
 #![tactic(auto)]
 
 mod blocks;
@@ -14,6 +15,6 @@ mod resume;
 mod tests;
 
 pub use held::ViewState;
-pub use view_model::Act;
 pub use proposals::proposal;
 pub use resume::Held;
+pub use view_model::Act;

@@ -44,7 +44,8 @@ fn carried_signers(alloc: Global, place: &Place) -> Result<List<u32>, NoMemory>
 /// The meta of the next block of the view.
 fn next_meta(alloc: Global, place: &Place, view: u64) -> Result<Meta, NoMemory>
     requires { IsPlace place.now }
-    ensures meta { IfOk result (λ meta. meta ≡ next_meta place.now view (signers_carried (carried_cert place.now))) }
+    ensures meta { IfOk result (λ meta. meta
+        ≡ next_meta place.now view (signers_carried (carried_cert place.now))) }
     ensures fits { IfOk result FitsMeta }
 {
     Ok(Meta {
@@ -91,7 +92,9 @@ pub(crate) fn proposed_block(
     offer: List<Request>,
 ) -> Result<Option<Block>, NoMemory>
     requires { IsPlace place.now }
-    ensures { IfOk result (λ block. block ≡ (if is_next_block place.now (proposal place.now view offer) then Some (proposal place.now view offer) else None)) }
+    ensures { IfOk result (λ block. block
+        ≡ (if is_next_block place.now (proposal place.now view offer)
+        then Some (proposal place.now view offer) else None)) }
 {
     if !have_room(offer.as_slice()) {
         return Ok(None);

@@ -47,8 +47,8 @@ fn is_of_view(view: u64, prepared: Option<Vote>) -> bool
 }
 
 impl ViewState {
-    /// Takes up what an opening found at the place. What was accepted or prepared in an earlier view is not of this one. No
-    /// vote message is kept.
+    /// Takes up what an opening found at the place. What was accepted or prepared in an earlier view is not
+    /// of this one. No vote message is kept.
     pub fn resume(&mut self, place: &Place, held: Held)
         requires { IsPlace place.now }
         ensures { self.new ≡ resumed self.old.me place.now held }

@@ -5,7 +5,6 @@ ghost use Rattle.view_core.specs.Places.{IsPlace};
 
 use crate::held::ViewState;
 use bft_wire::{Commit, PrePrepare, Prepare, Reason};
-use view_model::Act;
 use ord_types::{
     Batch, Block, Bytes, Cert, Config, Digest, Kind, List, Meta, Mode, NoMemory, Place, ReqId,
     ReqKind, Request, Sig, block_hash,
@@ -13,6 +12,7 @@ use ord_types::{
 use signer_edge::Verifier;
 use std::alloc::Global;
 use std::test::Fail;
+use view_model::Act;
 
 /// Accepts each signature.
 struct Trusting;

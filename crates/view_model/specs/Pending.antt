@@ -41,4 +41,5 @@ rank (Some b) prepared here = if prepared then 1 else 2
 
 -- less after each act
 abbrev pub still_at : Place → View → ℕ
-still_at place w = 3 * later place.height w.kept + rank w.accepted w.is_prepared (has_here place.height w.kept)
+still_at place w =
+    3 * later place.height w.kept + rank w.accepted w.is_prepared (has_here place.height w.kept)

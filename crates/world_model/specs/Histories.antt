@@ -1,4 +1,5 @@
--- The world of the model: its nodes are computed from all that happened at them, and it keeps the list of all facts.
+-- The world of the model: its nodes are computed from all that happened at them, and it keeps the list of all
+-- facts.
 use Rattle.std.specs.Prelude.{ℕ, List, [], ◌++◌, reverse, Option, None}
 use Rattle.line_flow.specs.Lines.{lines}
 use Rattle.safety_model.specs.Facts.{History}
@@ -13,7 +14,8 @@ abbrev pub past_keeping : Keeping PastNode
 past_keeping = record { look = core_of_past; opens = past_on; takes = with_entries }
 
 abbrev pub past_setting : Setting PastNode History
-past_setting = record { keeping = past_keeping; silent = []; hears = λ facts history. reverse facts ++ history }
+past_setting =
+    record { keeping = past_keeping; silent = []; hears = λ facts history. reverse facts ++ history }
 
 -- the run of a script: its text, and how it ends, a function of its bytes and of the outcomes
 abbrev pub run_of : List Outcome → List ℕ → Run

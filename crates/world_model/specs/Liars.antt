@@ -1,5 +1,25 @@
 -- The lines of Byzantine members: what they send, and what they sign.
-use Rattle.std.specs.Prelude.{ℕ, Bool, true, false, ◌&&◌, ◌==◌, nat_lt, not, List, [], ◌∷◌, ◌++◌, codes, length, Option, Some, None, option_and_then, if◌then◌else◌}
+use Rattle.std.specs.Prelude.{
+  ℕ,
+  Bool,
+  true,
+  false,
+  ◌&&◌,
+  ◌==◌,
+  nat_lt,
+  not,
+  List,
+  [],
+  ◌∷◌,
+  ◌++◌,
+  codes,
+  length,
+  Option,
+  Some,
+  None,
+  option_and_then,
+  if◌then◌else◌,
+}
 use Rattle.std.specs.Int.{w64, to_be_bytes}
 use Rattle.ord_types.specs.Hashes.{block_hash}
 use Rattle.ord_types.specs.Members.{is_in}
@@ -25,7 +45,8 @@ use Rattle.world_model.specs.Worlds.{Entry, Node, Setting, World, seals_of}
 -- a line in which one id sends to another: both are in the world, and the sender is Byzantine
 abbrev pub as_liar : {S T : Type 0} → ℕ → World S T → ℕ → ℕ → Turn (World S T) → Turn (World S T)
 as_liar number w from to turn =
-    if not (is_in from w.config.members && is_in to w.config.members) then refuses number (codes "unknown node") w
+    if not (is_in from w.config.members && is_in to w.config.members)
+    then refuses number (codes "unknown node") w
     else if not (is_in from w.byzantine) then refuses number (codes "not byzantine") w
     else turn
 
@@ -36,12 +57,14 @@ as_signer number w id turn = if id == 0 then turn else as_liar number w id id tu
 -- SENDING
 
 abbrev pub with_sent : {S T : Type 0} → World S T → ℕ → ℕ → List ℕ → World S T
-with_sent w from to bytes = record w { network = w.network ++ record { from = from; to = to; bytes = bytes; came = false } ∷ [] }
+with_sent w from to bytes =
+    record w { network = w.network ++ record { from = from; to = to; bytes = bytes; came = false } ∷ [] }
 
 -- the line tells the number of the entry that was sent
 abbrev pub sends : {S T : Type 0} → ℕ → List ℕ → World S T → ℕ → ℕ → List ℕ → Turn (World S T)
 sends number word w from to bytes =
-    goes_on (within_limit number [] (with_sent w from to bytes)) (λ sent. says (lied_text number word (length sent.network)) sent)
+    goes_on (within_limit number [] (with_sent w from to bytes))
+    (λ sent. says (lied_text number word (length sent.network)) sent)
 
 -- PROPOSE, on top of the longest ledger
 
@@ -57,15 +80,25 @@ longest (node ∷ nodes) = Some (longer node (longest nodes))
 -- a proposal of one request at a place, with the meta and the certificate that belong there
 abbrev pub proposal_of : Place → ℕ → Request → Message
 proposal_of place v r =
-    message_of.PrePrepare (record { config = place.config.number; view = v; number = place.height; block = proposal place v (r ∷ []); cert = carried_cert place })
+    message_of.PrePrepare
+    (record {
+      config = place.config.number;
+      view = v;
+      number = place.height;
+      block = proposal place v (r ∷ []);
+      cert = carried_cert place;
+    })
 
 -- there is a node in every world, since not all members are Byzantine
-abbrev pub propose_on : {S T : Type 0} → Setting S T → ℕ → World S T → ℕ → ℕ → ℕ → Request → Option (Node S) → Turn (World S T)
+abbrev pub propose_on : {S T : Type 0} → Setting S T → ℕ → World S T → ℕ → ℕ → ℕ → Request → Option (Node S)
+    → Turn (World S T)
 propose_on setting number w from to v r None = refuses number (codes "no core") w
 propose_on setting number w from to v r (Some node) =
-    sends number (codes "byz-propose") w from to (message_text (proposal_of (setting.keeping.look node.state).place v r))
+    sends number (codes "byz-propose") w from to
+    (message_text (proposal_of (setting.keeping.look node.state).place v r))
 
-abbrev pub propose_turn : {S T : Type 0} → Setting S T → ℕ → World S T → ℕ → ℕ → ℕ → Request → Turn (World S T)
+abbrev pub propose_turn : {S T : Type 0} → Setting S T → ℕ → World S T → ℕ → ℕ → ℕ → Request
+    → Turn (World S T)
 propose_turn setting number w from to v r = propose_on setting number w from to v r (longest w.nodes)
 
 -- VOTE, for the block that is proposed in an entry, with the configuration and the number of that proposal
@@ -78,13 +111,23 @@ abbrev pub proposed_in : List ℕ → Option PrePrepare
 proposed_in bytes = option_and_then proposal_in (message_in bytes)
 
 abbrev pub prepare_for : PrePrepare → ℕ → Message
-prepare_for m v = message_of.Prepare (record { config = m.config; view = v; number = m.number; digest = block_hash m.block })
+prepare_for m v =
+    message_of.Prepare
+    (record { config = m.config; view = v; number = m.number; digest = block_hash m.block })
 
 abbrev pub statement_for : PrePrepare → ℕ → List ℕ
 statement_for m v = commit_text m.config v m.number (block_hash m.block)
 
 abbrev pub commit_for : PrePrepare → ℕ → Sig → Message
-commit_for m v sig = message_of.Commit (record { config = m.config; view = v; number = m.number; digest = block_hash m.block; sig = sig })
+commit_for m v sig =
+    message_of.Commit
+    (record {
+      config = m.config;
+      view = v;
+      number = m.number;
+      digest = block_hash m.block;
+      sig = sig;
+    })
 
 -- with one more seal
 abbrev pub with_signed : {S T : Type 0} → World S T → ℕ → List ℕ → World S T
@@ -96,11 +139,14 @@ sig_at id place = record { signer = id; bytes = to_be_bytes w64 place }
 
 -- only a Commit is signed
 abbrev pub vote_for : {S T : Type 0} → ℕ → World S T → ℕ → ℕ → VoteKind → ℕ → PrePrepare → Turn (World S T)
-vote_for number w from to Prepare v m = sends number (codes "byz-vote") w from to (message_text (prepare_for m v))
+vote_for number w from to Prepare v m =
+    sends number (codes "byz-vote") w from to (message_text (prepare_for m v))
 vote_for number w from to Commit v m =
-    sends number (codes "byz-vote") (with_signed w from (statement_for m v)) from to (message_text (commit_for m v (sig_at from (length w.seals))))
+    sends number (codes "byz-vote") (with_signed w from (statement_for m v)) from to
+    (message_text (commit_for m v (sig_at from (length w.seals))))
 
-abbrev pub vote_if : {S T : Type 0} → ℕ → World S T → ℕ → ℕ → VoteKind → ℕ → Option PrePrepare → Turn (World S T)
+abbrev pub vote_if : {S T : Type 0} → ℕ → World S T → ℕ → ℕ → VoteKind → ℕ → Option PrePrepare
+    → Turn (World S T)
 vote_if number w from to kind v None = refuses number (codes "no block") w
 vote_if number w from to kind v (Some m) = vote_for number w from to kind v m
 

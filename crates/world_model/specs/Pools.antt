@@ -1,5 +1,22 @@
 -- The pool of a node: its waiting requests, in the order in which they came.
-use Rattle.std.specs.Prelude.{ℕ, Bool, ◌&&◌, ◌==◌, not, List, [], ◌∷◌, ◌++◌, length, take, filter, Result, Ok, Err, if◌then◌else◌}
+use Rattle.std.specs.Prelude.{
+  ℕ,
+  Bool,
+  ◌&&◌,
+  ◌==◌,
+  not,
+  List,
+  [],
+  ◌∷◌,
+  ◌++◌,
+  length,
+  take,
+  filter,
+  Result,
+  Ok,
+  Err,
+  if◌then◌else◌,
+}
 use Rattle.std.specs.List.{list_any}
 use Rattle.ord_types.specs.declared.values.ReqId.{ReqId}
 use Rattle.ord_types.specs.Faults.{whole}
@@ -34,7 +51,8 @@ place_of_fault NoMemory = 0
 -- the answer to what bytes spell: the first that holds. No change is taken yet.
 abbrev pub judged : List Request → Result Request ReadFault → Answer
 judged pool (Err fault) = Malformed (place_of_fault fault)
-judged pool (Ok r) = if is_ordinary r then (if has_id r.id pool then KnownPending else Admitted) else Malformed 0
+judged pool (Ok r) =
+    if is_ordinary r then (if has_id r.id pool then KnownPending else Admitted) else Malformed 0
 
 -- an admitted request stands at the end
 abbrev pub entered : List Request → Result Request ReadFault → List Request

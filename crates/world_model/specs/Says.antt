@@ -30,9 +30,11 @@ most_entries = 1000000
 abbrev pub within_limit : {S T : Type 0} → ℕ → List ℕ → World S T → Turn (World S T)
 within_limit number blocks w =
     if nat_lt most_entries (length w.network)
-    then record { printed = blocks ++ limit_text number most_entries; next = Err (Limit most_entries) } else says blocks w
+    then record { printed = blocks ++ limit_text number most_entries; next = Err (Limit most_entries) }
+    else says blocks w
 
 -- AN ORDINARY REQUEST
 
 abbrev pub ordinary : ℕ → ℕ → List ℕ → Request
-ordinary client serial payload = record { kind = Ordinary; id = record { client = client; serial = serial }; payload = payload }
+ordinary client serial payload =
+    record { kind = Ordinary; id = record { client = client; serial = serial }; payload = payload }

@@ -1,4 +1,5 @@
--- What a script's machine goes through: before the genesis the outcomes of all events of armed nodes, and then a world with those to come.
+-- What a script's machine goes through: before the genesis the outcomes of all events of armed nodes, and
+-- then a world with those to come.
 use Rattle.std.specs.Prelude.{ℕ, List, Option, Some, None, Result, Ok, Err}
 use Rattle.script.specs.declared.command.Command.{Command}
 use Rattle.script_play.specs.declared.ending.Ending.{Ending}
@@ -15,7 +16,8 @@ abbrev pub stage_of : {S T : Type 0} → List Outcome → Option (World S T) →
 stage_of outcomes None = Waits outcomes
 stage_of outcomes (Some w) = Goes w
 
-abbrev pub next_stage : {S T : Type 0} → List Outcome → Result (Option (World S T)) Ending → Result (Stage S T) Ending
+abbrev pub next_stage : {S T : Type 0} → List Outcome → Result (Option (World S T)) Ending
+    → Result (Stage S T) Ending
 next_stage outcomes (Ok next) = Ok (stage_of outcomes next)
 next_stage outcomes (Err ending) = Err ending
 
@@ -23,8 +25,10 @@ abbrev pub staged : {S T : Type 0} → List Outcome → Turn (Option (World S T)
 staged outcomes turn = record { printed = turn.printed; next = next_stage outcomes turn.next }
 
 unfoldable pub stage_turn : {S T : Type 0} → Setting S T → Stage S T → ℕ → Command → Turn (Stage S T)
-stage_turn setting (Waits outcomes) number command = staged outcomes (turn_of setting outcomes None number command)
-stage_turn setting (Goes w) number command = staged w.outcomes (turn_of setting w.outcomes (Some w) number command)
+stage_turn setting (Waits outcomes) number command =
+    staged outcomes (turn_of setting outcomes None number command)
+stage_turn setting (Goes w) number command =
+    staged w.outcomes (turn_of setting w.outcomes (Some w) number command)
 
 abbrev pub stage_closing : {S T : Type 0} → Setting S T → Stage S T → List ℕ
 stage_closing setting (Waits outcomes) = closing_of setting None

@@ -10,7 +10,7 @@ use Rattle.safety_model.specs.Blocks.{Block, Request}
 use Rattle.safety_model.specs.Facts.{signers_of}
 use Rattle.safety_model.specs.declared.fact.Fact.{Fact}
 use Rattle.safety_model.specs.declared.fact.Fact.TheVariants.{Delivered}
-use Rattle.node_model.specs.Steps.{Ways}
+use Rattle.node_model.specs.Cores.{Core}
 use Rattle.world_model.specs.Pools.{Answer, Admitted, Malformed, KnownPending}
 use Rattle.world_model.specs.Worlds.{Node}
 
@@ -53,13 +53,17 @@ seal_text number place = decimal number ++ codes " seal " ++ decimal place ++ co
 -- the lines of `submit` and `raw` tell the node and its pool's answer
 
 unfoldable pub admitted_text : ℕ → List ℕ → ℕ → List ℕ
-admitted_text number word node = decimal number ++ codes " " ++ word ++ codes " " ++ decimal node ++ codes " admitted\n"
+admitted_text number word node =
+    decimal number ++ codes " " ++ word ++ codes " " ++ decimal node ++ codes " admitted\n"
 
 unfoldable pub malformed_text : ℕ → List ℕ → ℕ → ℕ → List ℕ
-malformed_text number word node at = decimal number ++ codes " " ++ word ++ codes " " ++ decimal node ++ codes " malformed grammar " ++ decimal at ++ codes "\n"
+malformed_text number word node at =
+    decimal number ++ codes " " ++ word ++ codes " " ++ decimal node ++ codes " malformed grammar "
+    ++ decimal at ++ codes "\n"
 
 unfoldable pub pending_text : ℕ → List ℕ → ℕ → List ℕ
-pending_text number word node = decimal number ++ codes " " ++ word ++ codes " " ++ decimal node ++ codes " known pending\n"
+pending_text number word node =
+    decimal number ++ codes " " ++ word ++ codes " " ++ decimal node ++ codes " known pending\n"
 
 -- the pool's answer
 abbrev pub answer_text : ℕ → List ℕ → ℕ → Answer → List ℕ
@@ -83,7 +87,8 @@ first_id_text (r ∷ rs) = id_text r.id
 -- the front of a block line: node, number, configuration
 unfoldable pub block_front_text : ℕ → ℕ → Block → List ℕ
 block_front_text number node b =
-    decimal number ++ codes " block " ++ decimal node ++ codes " " ++ decimal b.header.number ++ codes " config " ++ decimal b.meta.config
+    decimal number ++ codes " block " ++ decimal node ++ codes " " ++ decimal b.header.number
+    ++ codes " config " ++ decimal b.meta.config
 
 -- how the block was ordered
 unfoldable pub view_text : ℕ → List ℕ
@@ -112,7 +117,8 @@ line_end = codes "\n"
 -- what is told of a block
 abbrev pub block_told : ℕ → ℕ → Block → Proof → List ℕ
 block_told number node b proof =
-    block_front_text number node b ++ order_text proof ++ requests_count_text (length b.requests) ++ first_id_text b.requests ++ signers_text proof
+    block_front_text number node b ++ order_text proof ++ requests_count_text (length b.requests)
+    ++ first_id_text b.requests ++ signers_text proof
 
 -- the line of a delivered block
 abbrev pub block_text : ℕ → ℕ → Block → Proof → List ℕ
@@ -123,7 +129,8 @@ hash_front = codes " hash "
 
 -- the line of a block that is shown: its hash stands at the end, in hex
 abbrev pub show_text : ℕ → ℕ → Block → Proof → List ℕ
-show_text number node b proof = block_told number node b proof ++ hash_front ++ encode_lower (block_hash b) ++ line_end
+show_text number node b proof =
+    block_told number node b proof ++ hash_front ++ encode_lower (block_hash b) ++ line_end
 
 -- a block line for each delivery
 abbrev pub fact_text : ℕ → Fact → List ℕ
@@ -132,7 +139,8 @@ fact_text number _ = []
 
 unfoldable pub node_text : ℕ → ℕ → ℕ → ℕ → ℕ → List ℕ
 node_text id height config view left =
-    codes "node " ++ decimal id ++ codes " height " ++ decimal height ++ codes " config " ++ decimal config ++ codes " view " ++ decimal view ++ codes " left " ++ decimal left ++ codes "\n"
+    codes "node " ++ decimal id ++ codes " height " ++ decimal height ++ codes " config " ++ decimal config
+    ++ codes " view " ++ decimal view ++ codes " left " ++ decimal left ++ codes "\n"
 
 -- the closing line of a stopped node
 unfoldable pub closed_text : ℕ → List ℕ

@@ -1,5 +1,29 @@
 -- The world of a script, and what an event changes in it.
-use Rattle.std.specs.Prelude.{ℕ, zero, suc, Bool, true, false, ◌&&◌, ◌==◌, not, List, [], ◌∷◌, ◌++◌, length, map, take, slice_get, slice_set, Option, Some, None, is_some, if◌then◌else◌}
+use Rattle.std.specs.Prelude.{
+  ℕ,
+  zero,
+  suc,
+  Bool,
+  true,
+  false,
+  ◌&&◌,
+  ◌==◌,
+  not,
+  List,
+  [],
+  ◌∷◌,
+  ◌++◌,
+  length,
+  map,
+  take,
+  slice_get,
+  slice_set,
+  Option,
+  Some,
+  None,
+  is_some,
+  if◌then◌else◌,
+}
 use Rattle.std.specs.Int.{w64, to_be_bytes}
 use Rattle.std.specs.List.{flat_map, find}
 use Rattle.ord_types.specs.Members.{is_in}
@@ -11,13 +35,12 @@ use Rattle.signer_edge.specs.Seals.{is_sealed}
 use Rattle.bft_wire.specs.Spelling.{message_text}
 use Rattle.view_model.specs.Acts.{may_propose}
 use Rattle.node_model.specs.Cores.{Core}
+use Rattle.node_model.specs.declared.event.Event.{Event}
+use Rattle.node_model.specs.declared.event.Event.TheVariants.{FromMember, Tick}
 use Rattle.node_model.specs.Entries.{
   Entry as Happened,
-  Event,
-  FromMember,
   Opened,
   Post,
-  Tick,
   facts_of,
   posts_of,
   statements_of,
@@ -26,8 +49,8 @@ use Rattle.node_model.specs.Entries.{
 use Rattle.node_model.specs.Steps.{Keys, step}
 use Rattle.world_model.specs.Pools.{offer, settled}
 
--- How a node's state is kept: what it is as it stands, a node of this id on the first block of a configuration,
--- and one with some entries more, the first of them first.
+-- How a node's state is kept: what it is as it stands, a node of this id on the first block of a
+-- configuration, and one with some entries more, the first of them first.
 pub record Keeping (S : Type 0) : Type 0 where
   pub look : S → Core
   pub opens : Config → ℕ → S
@@ -39,14 +62,14 @@ pub record Setting (S T : Type 0) : Type 0 where
   pub silent : T
   pub hears : List Fact → T → T
 
--- What becomes of an event of a node whose disk is armed to stop at a later call: the call isn't reached in it,
--- or it is, and then so many of the step's entries, in order, are what was made durable and signed.
+-- What becomes of an event of a node whose disk is armed to stop at a later call: the call isn't reached in
+-- it, or it is, and then so many of the step's entries, in order, are what was made durable and signed.
 pub data Outcome : Type 0 where
   GoesOn : Outcome
   Stops : ℕ → Outcome
 
--- Its ledger has each block with what stands behind it, from block 0 on. It runs, or is stopped; it is armed where its disk is to stop
--- at a later call.
+-- Its ledger has each block with what stands behind it, from block 0 on. It runs, or is stopped; it is armed
+-- where its disk is to stop at a later call.
 pub record Node (S : Type 0) : Type 0 where
   pub id : ℕ
   pub state : S
@@ -62,8 +85,8 @@ pub record Entry : Type 0 where
   pub bytes : List ℕ
   pub came : Bool
 
--- Its members are those of the first configuration. A Byzantine one has no node. Nodes stand by rising id; entries and
--- seals in the order in which they were made.
+-- Its members are those of the first configuration. A Byzantine one has no node. Nodes stand by rising id;
+-- entries and seals in the order in which they were made.
 pub record World (S T : Type 0) : Type 0 where
   pub config : Config
   pub byzantine : List ℕ
@@ -79,12 +102,16 @@ pub record World (S T : Type 0) : Type 0 where
 abbrev pub seals_of : ℕ → List (List ℕ) → List Seal
 seals_of i statements = map (λ statement. record { signer = i; statement = statement }) statements
 
--- the keys of a node's step: the box as the step found it, and what the step added. A signature is the place of its seal.
+-- the keys of a node's step: the box as the step found it, and what the step added. A signature is the place
+-- of its seal.
 abbrev pub keys_of : List Seal → ℕ → Keys
 keys_of box i =
     record {
       accepts = λ statements. is_sealed (box ++ seals_of i statements);
-      signs = λ statements. record { signer = i; bytes = to_be_bytes w64 (length (box ++ seals_of i statements)) };
+      signs = λ statements. record {
+        signer = i;
+        bytes = to_be_bytes w64 (length (box ++ seals_of i statements));
+      };
     }
 
 -- NODES
@@ -175,7 +202,8 @@ world_stopped setting w node made =
 
 -- after so many entries of the event, at most
 abbrev pub world_stopped_in : {S T : Type 0} → Setting S T → World S T → Node S → Event → ℕ → World S T
-world_stopped_in setting w node event cut = world_stopped setting w node (take cut (making setting w node event))
+world_stopped_in setting w node event cut =
+    world_stopped setting w node (take cut (making setting w node event))
 
 -- it is opened again
 abbrev pub node_started : {S : Type 0} → Node S → Node S

@@ -17,14 +17,32 @@ pub hash_fits : (b : Block) → IsDigest (block_hash b)
 unfolding header_hash
 hash_fits b = length-sha256 _
 
-pub preprepare_fits : (place : Place) (w : View) (b : Block) → PlaceFits place w.view → FitsAt place.height b → HasMessageSpelling (preprepare_message place w b)
+pub preprepare_fits : (place : Place) (w : View) (b : Block) → PlaceFits place w.view
+    → FitsAt place.height b → HasMessageSpelling (preprepare_message place w b)
 preprepare_fits place w b fits is =
     let carried = carried_fits place w.view fits in
-    record { config = fits.config; view = view_fits place w.view fits; number = is.number; block = is.spelled; cert = carried.spelled }
+    record {
+      config = fits.config;
+      view = view_fits place w.view fits;
+      number = is.number;
+      block =
+          is.spelled;
+      cert = carried.spelled;
+    }
 
-pub prepare_fits : (place : Place) (w : View) (b : Block) → PlaceFits place w.view → IsNumber place.height → HasMessageSpelling (prepare_message place w b)
-prepare_fits place w b fits number = record { config = fits.config; view = view_fits place w.view fits; number = number; digest = hash_fits b }
+pub prepare_fits : (place : Place) (w : View) (b : Block) → PlaceFits place w.view → IsNumber place.height
+    → HasMessageSpelling (prepare_message place w b)
+prepare_fits place w b fits number =
+    record { config = fits.config; view = view_fits place w.view fits; number = number; digest = hash_fits b }
 
-pub commit_fits : (place : Place) (w : View) (d : List ℕ) (sig : Sig) → PlaceFits place w.view → IsNumber place.height → IsDigest d → HasSigSpelling sig
+pub commit_fits : (place : Place) (w : View) (d : List ℕ) (sig : Sig) → PlaceFits place w.view
+    → IsNumber place.height → IsDigest d → HasSigSpelling sig
     → MessageFits (message_of.Commit (commit_message place w d sig))
-commit_fits place w d sig fits number digest signed = record { config = fits.config; view = view_fits place w.view fits; number = number; digest = digest; sig = signed }
+commit_fits place w d sig fits number digest signed = record {
+  config = fits.config;
+  view =
+      view_fits place w.view fits;
+  number = number;
+  digest = digest;
+  sig = signed;
+}

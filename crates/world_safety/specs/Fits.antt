@@ -1,15 +1,22 @@
--- Blocks, certificates and messages that have a spelling.
-use Rattle.std.specs.Prelude.{◌≡◌, ◌≤◌, ℕ, Option, Some, None, ⊤}
+-- Blocks, certificates, messages and deeds that have a spelling.
+use Rattle.std.specs.Prelude.{◌≤◌, ℕ, ⊤}
 use Rattle.ord_types.specs.Grammar.{HasBlockSpelling, HasCertSpelling, HasIdsSpelling, IsNumber}
-use Rattle.ord_types.specs.Hashes.{block_hash}
 use Rattle.ord_types.specs.declared.values.Proof.TheVariants as proof_of
 use Rattle.safety_model.specs.Blocks.{Block}
 use Rattle.safety_model.specs.Facts.{Cert, Proof, signers_of}
 use Rattle.safety_model.specs.declared.fact.Fact.{Fact}
-use Rattle.safety_model.specs.declared.fact.Fact.TheVariants.{Accepted, Prepared, Left, Reported, Entered, Delivered}
+use Rattle.safety_model.specs.declared.fact.Fact.TheVariants.{
+  Accepted,
+  Prepared,
+  Left,
+  Reported,
+  Entered,
+  Delivered,
+}
 use Rattle.bft_wire.specs.Messages.{HasMessageSpelling}
 use Rattle.view_model.specs.declared.letter.VoteMessage.{VoteMessage}
 use Rattle.view_model.specs.Letters.{on_wire}
+use Rattle.node_model.specs.Entries.{Accepts, Deed, Delivers, Enters, Leaves, Prepares}
 
 -- a block at number s that has a spelling, with no more decided before it in its view than stand before it
 pub record FitsAt (s : ℕ) (b : Block) : Type 0 where
@@ -43,12 +50,10 @@ FactFits (Reported i e v r) = ⊤
 FactFits (Entered i e v x choice) = ⊤
 FactFits (Delivered i b proof) = DeliveredFits b proof
 
--- a fact, and the block that an acceptance names: it has the digest that was accepted, and fits
-abbrev pub ActFits : Fact → Option Block → Type 0
-ActFits (Accepted i e v s d) (Some b) = (d ≡ block_hash b) × FitsAt s b
-ActFits (Accepted i e v s d) None = ⊥
-ActFits (Prepared i e v s d) o = ⊤
-ActFits (Left i e v) o = ⊤
-ActFits (Reported i e v r) o = ⊤
-ActFits (Entered i e v x choice) o = ⊤
-ActFits (Delivered i b proof) o = ⊤
+-- a deed with a block that fits where it is accepted, or was delivered with what stands behind it
+abbrev pub DeedFits : Deed → Type 0
+DeedFits (Accepts i e v s b) = FitsAt s b
+DeedFits (Prepares i e v s d) = ⊤
+DeedFits (Delivers i b proof) = DeliveredFits b proof
+DeedFits (Leaves i e v) = ⊤
+DeedFits (Enters i e v x choice) = ⊤

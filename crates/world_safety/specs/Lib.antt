@@ -1,7 +1,7 @@
 pub mod Resting
 pub mod Fits
 pub mod Safe
-pub mod Steps
+pub mod AllowedSteps
 pub mod Within
 pub mod Telling
 pub mod Certified

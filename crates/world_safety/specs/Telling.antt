@@ -1,5 +1,31 @@
--- The text of a script is told by the histories of its worlds: the block lines are those of the facts that happened, line by line.
-use Rattle.std.specs.Prelude.{◌≡◌, ℕ, ◌+◌, ◌<◌, true, false, ◌&&◌, List, [], ◌∷◌, ◌++◌, codes, length, map, reverse, slice_get, Option, Some, None, Result, Ok, Err, IsTrue, ⊤}
+-- The text of a script is told by the histories of its worlds: the block lines are those of the facts that
+-- happened, line by line.
+use Rattle.std.specs.Prelude.{
+  ◌≡◌,
+  ℕ,
+  ◌+◌,
+  ◌<◌,
+  true,
+  false,
+  ◌&&◌,
+  List,
+  [],
+  ◌∷◌,
+  ◌++◌,
+  codes,
+  length,
+  map,
+  reverse,
+  slice_get,
+  Option,
+  Some,
+  None,
+  Result,
+  Ok,
+  Err,
+  IsTrue,
+  ⊤,
+}
 use Rattle.std.specs.List.{AllByRecursion, flat_map}
 use Rattle.ord_types.specs.Members.{is_in}
 use Rattle.safety_model.specs.Blocks.{Block}
@@ -17,7 +43,22 @@ use Rattle.script_play.specs.Runs.{line_turn}
 use Rattle.script_play.specs.Texts.{malformed_text, not_built_text, too_many_faulty_text}
 use Rattle.world_model.specs.Histories.{past_setting, run_of}
 use Rattle.world_model.specs.Pools as pool
-use Rattle.world_model.specs.Texts.{answer_text, deliver_text, fact_text, flush_text, genesis_text, lied_text, limit_text, refused_text, seal_text, show_text, start_text, stop_at_text, stopped_text, tick_text}
+use Rattle.world_model.specs.Texts.{
+  answer_text,
+  deliver_text,
+  fact_text,
+  flush_text,
+  genesis_text,
+  lied_text,
+  limit_text,
+  refused_text,
+  seal_text,
+  show_text,
+  start_text,
+  stop_at_text,
+  stopped_text,
+  tick_text,
+}
 use Rattle.world_model.specs.Turns.{closing_of, is_running, turn_of}
 use Rattle.world_model.specs.Worlds.{Entry, Node, Outcome, entry, node_at}
 use Rattle.node_model.specs.Keeping.{PastNode}
@@ -44,7 +85,8 @@ facts_in (Stopped id facts) = facts
 -- the history after each event; the newest fact stands first
 abbrev pub histories_after : History → List Happened → List History
 histories_after h [] = []
-histories_after h (event ∷ events) = (reverse (facts_in event) ++ h) ∷ histories_after (reverse (facts_in event) ++ h) events
+histories_after h (event ∷ events) =
+    (reverse (facts_in event) ++ h) ∷ histories_after (reverse (facts_in event) ++ h) events
 
 -- the last of x and of those after it
 abbrev pub last_of : {X : Type 0} → X → List X → X
@@ -157,7 +199,8 @@ pub record IsStored (m : Meaning) (w : PastWorld) (id : ℕ) (b : Block) (proof 
   pub stands : slice_get node.ledger place ≡ Some (b, proof)
   pub asked : m ≡ Means (command_of.Show id place)
 
--- the last entry of the network has this number, and is of the line's own sender, a Byzantine member, to its receiver
+-- the last entry of the network has this number, and is of the line's own sender, a Byzantine member, to
+-- its receiver
 pub record IsLastSent (m : Meaning) (w : PastWorld) (number : ℕ) : Type 0 where
   pub last : Entry
   pub at : entry number w ≡ Some last
@@ -228,21 +271,24 @@ AreStops [] events = ⊤
 AreStops (o ∷ here) [] = ⊤
 AreStops (o ∷ here) (event ∷ events) = IsStopIn o event × AreStops here events
 
--- These are the worlds of a line that means this and began with this world: they have the histories of its events, in each the node
--- that its event stopped doesn't run, and what the line's reply tells is so in the last of them, or in the one with which it began
--- where it has none.
-pub record IsPartOf (m : Meaning) (o : Option PastWorld) (here : List (Option PastWorld)) (part : Part) : Type 0 where
+-- These are the worlds of a line that means this and began with this world: they have the histories of its
+-- events, in each the node that its event stopped doesn't run, and what the line's reply tells is so in the
+-- last of them, or in the one with which it began where it has none.
+pub record IsPartOf (m : Meaning) (o : Option PastWorld) (here : List (Option PastWorld))
+    (part : Part) : Type 0 where
   pub histories : map told_in here ≡ histories_after (told_in o) part.events
   pub stops : AreStops here part.events
   pub so : IsSo m (last_of o here) part.reply
 
 -- the parts behind a turn: none where it ended the run
-abbrev pub AreLater : Result (Option PastWorld) Ending → (Option PastWorld → List Part → Type 0) → List Part → Type 0
+abbrev pub AreLater : Result (Option PastWorld) Ending → (Option PastWorld → List Part → Type 0) → List Part
+    → Type 0
 AreLater (Ok next) rest parts = rest next parts
 AreLater (Err ending) rest parts = parts ≡ []
 
 -- a first part, and those behind the turn
-abbrev pub BeginWith : (Part → Type 0) → Result (Option PastWorld) Ending → (Option PastWorld → List Part → Type 0) → List Part → Type 0
+abbrev pub BeginWith : (Part → Type 0) → Result (Option PastWorld) Ending
+    → (Option PastWorld → List Part → Type 0) → List Part → Type 0
 BeginWith First next rest [] = ⊥
 BeginWith First next rest (part ∷ parts) = First part × AreLater next rest parts
 
@@ -250,7 +296,9 @@ BeginWith First next rest (part ∷ parts) = First part × AreLater next rest pa
 unfoldable pub AreParts : List Outcome → List (List ℕ) → Option PastWorld → ℕ → List Part → Type 0
 AreParts outcomes [] o number parts = parts ≡ []
 AreParts outcomes (line ∷ more) o number parts =
-    BeginWith (IsPartOf (meaning line) o (worlds_in_line outcomes o number line)) (line_turn (turn_of past_setting outcomes) o number line).next (λ next parts. AreParts outcomes more next (number + 1) parts) parts
+    BeginWith (IsPartOf (meaning line) o (worlds_in_line outcomes o number line))
+    (line_turn (turn_of past_setting outcomes) o number line).next
+    (λ next parts. AreParts outcomes more next (number + 1) parts) parts
 
 -- THE TEXT OF A SCRIPT
 
@@ -271,20 +319,23 @@ abbrev pub end_text : Ending → Option PastWorld → List ℕ
 end_text Done o = closing_of past_setting o
 end_text _ o = []
 
--- There is one world for each event, whose history grew by the facts of that event, so that the last world's history has
--- them all. The text has the block lines of the facts of the events that went through, in their order, and no others; each event in
--- which a node was stopped has one line that tells this. Beside them stand only the replies to the lines, and the closing lines of the
--- last world. Each line has a part of its own, whose reply is so in the last of its worlds.
+-- There is one world for each event, whose history grew by the facts of that event, so that the last
+-- world's history has them all. The text has the block lines of the facts of the events that went through,
+-- in their order, and no others; each event in which a node was stopped has one line that tells this.
+-- Beside them stand only the replies to the lines, and the closing lines of the last world. Each line has a
+-- part of its own, whose reply is so in the last of its worlds.
 pub record IsTold (outcomes : List Outcome) (script : List ℕ) : Type 0 where
   pub parts : List Part
   pub histories : map told_in (all_worlds_of outcomes script) ≡ [] ∷ histories_after [] (events_of parts)
   pub last : told_in (last_of None (all_worlds_of outcomes script)) ≡ reverse (facts_of (events_of parts))
   pub each : AreParts outcomes (lines script) None 1 parts
-  pub text : (run_of outcomes script).text ≡ parts_text 1 parts ++ end_text (run_of outcomes script).ending (last_of None (all_worlds_of outcomes script))
+  pub text : (run_of outcomes script).text ≡ parts_text 1 parts ++ end_text (run_of outcomes script).ending
+      (last_of None (all_worlds_of outcomes script))
 
 -- all worlds of every script are safe, not only those between its lines, for every list of outcomes
 abbrev pub AllWorldsAreSafe : Type 0
-AllWorldsAreSafe = (outcomes : List Outcome) (script : List ℕ) → AllByRecursion IsSafe (all_worlds_of outcomes script)
+AllWorldsAreSafe =
+    (outcomes : List Outcome) (script : List ℕ) → AllByRecursion IsSafe (all_worlds_of outcomes script)
 
 -- and their histories tell the script's text
 abbrev pub EveryTextIsTold : Type 0

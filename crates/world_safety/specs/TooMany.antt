@@ -31,8 +31,8 @@ pub record AreTooMany (members byzantine : List ℕ) (config count bound : ℕ) 
   pub most : bound ≡ fault_bound (length members)
   pub above : bound < count
 
--- the first genesis of these lines, of which the first has this number, stands at that number, within the limits, and has
--- too many Byzantine members
+-- the first genesis of these lines, of which the first has this number, stands at that number, within the
+-- limits, and has too many Byzantine members
 pub record HaveTooMany (ls : List (List ℕ)) (first number config count bound : ℕ) : Type 0 where
   pub before : List (List ℕ)
   pub line : List ℕ
@@ -50,9 +50,13 @@ pub record HaveTooMany (ls : List (List ℕ)) (first number config count bound :
 -- the run of a script ends so there alone
 abbrev pub EndsOnlyWhereTooMany : Type 0
 EndsOnlyWhereTooMany =
-    (outcomes : List Outcome) (script : List ℕ) (number config count bound : ℕ) → (run_of outcomes script).ending ≡ TooManyFaulty number config count bound → HaveTooMany (lines script) 1 number config count bound
+    (outcomes : List Outcome) (script : List ℕ) (number config count bound : ℕ)
+    → (run_of outcomes script).ending ≡ TooManyFaulty number config count bound
+    → HaveTooMany (lines script) 1 number config count bound
 
 -- and wherever they do
 abbrev pub EndsWhereTooMany : Type 0
 EndsWhereTooMany =
-    (outcomes : List Outcome) (script : List ℕ) (number config count bound : ℕ) → HaveTooMany (lines script) 1 number config count bound → (run_of outcomes script).ending ≡ TooManyFaulty number config count bound
+    (outcomes : List Outcome) (script : List ℕ) (number config count bound : ℕ)
+    → HaveTooMany (lines script) 1 number config count bound → (run_of outcomes script).ending
+    ≡ TooManyFaulty number config count bound

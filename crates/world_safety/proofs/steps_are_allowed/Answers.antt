@@ -1,5 +1,10 @@
 use Rattle.world_safety.proofs.Nodes.{opened, other_did, reopened}
-use Rattle.world_safety.proofs.Stepping.{nodes_after_steps, nodes_after_stops, steps_allowed, steps_in_place_allowed}
+use Rattle.world_safety.proofs.Stepping.{
+  nodes_after_steps,
+  nodes_after_stops,
+  steps_allowed,
+  steps_in_place_allowed,
+}
 use Rattle.world_safety.proofs.steps_are_allowed.Goals as goal
 
 pub returns-clause-from_past : goal.returns-clause-from_past

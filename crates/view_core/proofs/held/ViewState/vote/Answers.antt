@@ -1,26 +1,19 @@
-use Rattle.std.proofs.Common.{◌≡◌, subst, IfOk, OnOk, OnErr}
+use Rattle.std.proofs.Common.{subst}
 use Rattle.view_model.specs.Acts.{View}
-use Rattle.view_model.specs.Answers.{after_act, at_place, kept_after, vote_answer}
-use Rattle.view_core.proofs.AnswerLemmas.{answered}
-use Rattle.view_core.proofs.FitLemmas.{IfOk-fits, vote_fits}
+use Rattle.view_model.specs.Answers.{at_place, kept_after, vote_answer}
+use Rattle.view_core.specs.Calls.{IsTaken}
+use Rattle.view_core.proofs.FitLemmas.{answered_from, vote_fits}
 use Rattle.view_core.proofs.held.ViewState.vote.Goals as goal
 
-pub returns-clause-answer : goal.returns-clause-answer
-returns-clause-answer g c =
-    subst (λ (w : View). IfOk c.placed_vote.result (λ act. act ≡ vote_answer (g.V.Verifier.accepts c.args.verifier.now) c.args.place.now w c.args.letter)) c.settle.ensures.at c.placed_vote.ensures.answer
-
-pub returns-clause-after : goal.returns-clause-after
-returns-clause-after g c =
-    let left = answered c.placed_vote.result (vote_answer (g.V.Verifier.accepts c.args.verifier.now) c.args.place.now c.settle.new.self c.args.letter) c.placed_vote.new.self (kept_after (g.V.Verifier.accepts c.args.verifier.now) c.args.place.now c.settle.new.self c.args.letter) c.placed_vote.ensures.answer c.placed_vote.ensures.after in
-    subst (λ (w : View). OnOk c.placed_vote.result (c.placed_vote.new.self ≡ after_act (vote_answer (g.V.Verifier.accepts c.args.verifier.now) c.args.place.now w c.args.letter) (kept_after (g.V.Verifier.accepts c.args.verifier.now) c.args.place.now w c.args.letter))) c.settle.ensures.at left
-
-pub returns-clause-err : goal.returns-clause-err
-returns-clause-err g c =
-    subst (λ (w : View). OnErr c.placed_vote.result (c.placed_vote.new.self ≡ w)) c.settle.ensures.at c.placed_vote.ensures.err
-
-pub returns-clause-fits : goal.returns-clause-fits
-returns-clause-fits g c =
+pub returns : goal.returns
+returns g c =
     let accepts = g.V.Verifier.accepts c.args.verifier.now in
-    let fits = vote_fits accepts c.args.place.now c.args.self.now c.args.letter c.requires.place.few c.requires.short c.settle.ensures.short in
-    let answer = subst (λ (w : View). IfOk c.placed_vote.result (λ act. act ≡ vote_answer accepts c.args.place.now w c.args.letter)) c.settle.ensures.at c.placed_vote.ensures.answer in
-    IfOk-fits c.placed_vote.result (vote_answer accepts c.args.place.now (at_place c.args.place.now c.args.self.now) c.args.letter) answer fits
+    let place = c.args.place.now in
+    let letter = c.args.letter in
+    let placed = at_place place c.args.self.now in
+    let result = c.placed_vote.result in
+    let new = c.placed_vote.new.self in
+    answered_from result (vote_answer accepts place placed letter) new (kept_after accepts place placed letter) placed
+    (subst (λ (w : View). IsTaken result (vote_answer accepts place w letter) new (kept_after accepts place w letter) w)
+    c.settle.ensures.at c.placed_vote.ensures)
+    (vote_fits accepts place c.args.self.now letter c.requires.place.few c.requires.short c.settle.ensures.short)
