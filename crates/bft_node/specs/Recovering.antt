@@ -17,7 +17,8 @@ use Rattle.bft_node.specs.Standing.{Stands}
 use Rattle.bft_node.specs.Stores.{IsKept, StaysOpen, config_of, held_of}
 use Rattle.bft_node.specs.declared.live.Running.{Running}
 
--- Files that keep a chain and what a node did: an opening finds the node as it was, but for the vote messages that it kept.
+-- Files that keep a chain and what a node did: an opening finds the node as it was, but for the vote messages
+-- that it kept.
 pub record Keeps (accepts : Acceptance) (c : Config) (me : ℕ) (image : Image) (chain : List Stored)
     (core : Core) : Type 0 where
   pub ledger : KeepsChain accepts c image chain
