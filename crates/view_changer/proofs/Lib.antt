@@ -1,1 +1,1 @@
-pub mod ChoiceLemmas
+pub mod TurnLemmas

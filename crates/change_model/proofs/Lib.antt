@@ -1,0 +1,5 @@
+pub mod RowLemmas
+pub mod AgreeLemmas
+pub mod ChoiceLemmas
+pub mod ValidLemmas
+pub mod SupportLemmas
