@@ -51,16 +51,14 @@ impl Running {
     ) -> Result<(), NodeFault>
         requires ready { IsReady (D.tells disk.old) (D.moments disk.old) self.old }
         requires fits { FitsBlock block }
-        ensures same { OnOk result (IsSame self.old self.new) }
-        ensures ready { OnOk result (IsReady (D.tells disk.new) (D.moments disk.new) self.new) }
+        ensures runs { KeepsRunning result self.old self.new
+            (devices (D.tells disk.old) (D.moments disk.old) (D.faults disk.old) 0)
+            (devices (D.tells disk.new) (D.moments disk.new) (D.faults disk.new) 0) }
         ensures makes { (accepts : SomeAccepts)
             → AddsRule accepts (λ _ _ c. proposes (Some block) c) result (Taken (act_of.Accept block))
             (λ _. Quiet)
             (stage self.old tt (D.tells disk.old) (D.moments disk.old) out.old)
             (stage self.new tt (D.tells disk.new) (D.moments disk.new) out.new) }
-        ensures tells { D.tells disk.new ≡ D.tells disk.old }
-        ensures later { D.faults disk.old ≤ D.faults disk.new }
-        ensures cause { HasNodeCause (counts (D.faults disk.old) 0) (counts (D.faults disk.new) 0) result }
     {
         let accepted = block.copy()?;
         self.keep_acceptance(accepted, disk, out)?;
@@ -77,14 +75,12 @@ impl Running {
         out: &mut Out,
     ) -> Result<(), NodeFault>
         requires { IsReady (D.tells disk.old) (D.moments disk.old) self.old }
-        ensures same { OnOk result (IsSame self.old self.new) }
-        ensures ready { OnOk result (IsReady (D.tells disk.new) (D.moments disk.new) self.new) }
+        ensures runs { KeepsRunning result self.old self.new
+            (devices (D.tells disk.old) (D.moments disk.old) (D.faults disk.old) 0)
+            (devices (D.tells disk.new) (D.moments disk.new) (D.faults disk.new) 0) }
         ensures makes { AddsRule (V.accepts keys.now) (λ _. own_rule (Tick offer)) result Quiet (λ _. Quiet)
             (stage self.old tt (D.tells disk.old) (D.moments disk.old) out.old)
             (stage self.new tt (D.tells disk.new) (D.moments disk.new) out.new) }
-        ensures tells { D.tells disk.new ≡ D.tells disk.old }
-        ensures later { D.faults disk.old ≤ D.faults disk.new }
-        ensures cause { HasNodeCause (counts (D.faults disk.old) 0) (counts (D.faults disk.new) 0) result }
     {
         match self.view.propose(self.store.ledger.place(), offer, keys)? {
             Act::Accept(block) => self.accept_own(block, disk, out),
@@ -101,15 +97,12 @@ impl Running {
         out: &mut Out,
     ) -> Result<(), NodeFault>
         requires { IsReady (D.tells disk.old) (D.moments disk.old) self.old }
-        ensures same { OnOk result (IsSame self.old self.new) }
-        ensures ready { OnOk result (IsReady (D.tells disk.new) (D.moments disk.new) self.new) }
+        ensures runs { KeepsRunning result self.old self.new
+            (devices (D.tells disk.old) (D.moments disk.old) (D.faults disk.old) (K.faults keys.old))
+            (devices (D.tells disk.new) (D.moments disk.new) (D.faults disk.new) (K.faults keys.new)) }
         ensures makes { Signs K.sign_gives result keys.old keys.new (MakesStep K.accepts (Tick offer) result
             (stage self.old keys.old (D.tells disk.old) (D.moments disk.old) out.old)
             (stage self.new keys.new (D.tells disk.new) (D.moments disk.new) out.new)) }
-        ensures tells { D.tells disk.new ≡ D.tells disk.old }
-        ensures later { (D.faults disk.old ≤ D.faults disk.new) × (K.faults keys.old ≤ K.faults keys.new) }
-        ensures cause { HasNodeCause (counts (D.faults disk.old) (K.faults keys.old))
-            (counts (D.faults disk.new) (K.faults keys.new)) result }
     {
         self.repeat(keys, out)?;
         self.propose(offer, disk, keys, out)?;
@@ -229,15 +222,12 @@ impl Running {
         out: &mut Out,
     ) -> Result<(), NodeFault>
         requires { IsReady (D.tells disk.old) (D.moments disk.old) self.old }
-        ensures same { OnOk result (IsSame self.old self.new) }
-        ensures ready { OnOk result (IsReady (D.tells disk.new) (D.moments disk.new) self.new) }
+        ensures runs { KeepsRunning result self.old self.new
+            (devices (D.tells disk.old) (D.moments disk.old) (D.faults disk.old) (K.faults keys.old))
+            (devices (D.tells disk.new) (D.moments disk.new) (D.faults disk.new) (K.faults keys.new)) }
         ensures makes { Signs K.sign_gives result keys.old keys.new (MakesStep K.accepts (event) result
             (stage self.old keys.old (D.tells disk.old) (D.moments disk.old) out.old)
             (stage self.new keys.new (D.tells disk.new) (D.moments disk.new) out.new)) }
-        ensures tells { D.tells disk.new ≡ D.tells disk.old }
-        ensures later { (D.faults disk.old ≤ D.faults disk.new) × (K.faults keys.old ≤ K.faults keys.new) }
-        ensures cause { HasNodeCause (counts (D.faults disk.old) (K.faults keys.old))
-            (counts (D.faults disk.new) (K.faults keys.new)) result }
     {
         match event {
             Event::Tick { offer } => self.tick(offer, disk, keys, out),
