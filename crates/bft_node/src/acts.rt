@@ -24,7 +24,7 @@ ghost use Rattle.bft_node.specs.Calls.{
 ghost use Rattle.bft_node.specs.Commits.{Commits, SignsAtMost, commit_at, statement_at};
 ghost use Rattle.bft_node.specs.Making.{GoesOn};
 ghost use Rattle.bft_node.specs.NodeFaults.{HasNodeCause, TouchesNoDisk, counts};
-ghost use Rattle.bft_node.specs.Outcomes.{KeepsRunning, devices};
+ghost use Rattle.bft_node.specs.Outcomes.{KeepsRunning, StaysSound, devices};
 ghost use Rattle.bft_node.specs.Running.{IsReady, IsSame, IsSound, state_of};
 ghost use Rattle.bft_node.specs.Signings.{Signs, signing};
 
@@ -40,10 +40,7 @@ impl Running {
     /// The act that is due now.
     pub(crate) fn told<V: Verifier>(&mut self, keys: &V) -> Result<Act, NoMemory>
         requires { IsSound self.old }
-        ensures same { IsSame self.old self.new }
-        ensures sound { IsSound self.new }
-        ensures ready { (tells : Bool) (moments : Items State)
-            → IsReady tells moments self.old → IsReady tells moments self.new }
+        ensures stays { StaysSound self.old self.new }
         ensures fits { IfOk result FitsAct }
         ensures told { IfOk result
             (λ told. TellsDue (V.accepts keys.now) (state_of self.old) told self.old self.new) }
@@ -112,10 +109,7 @@ impl Running {
         out: &mut Out,
     ) -> Result<Act, NodeFault>
         requires { IsSound self.old }
-        ensures same { IsSame self.old self.new }
-        ensures sound { IsSound self.new }
-        ensures ready { (tells : Bool) (moments : Items State)
-            → IsReady tells moments self.old → IsReady tells moments self.new }
+        ensures stays { StaysSound self.old self.new }
         ensures fits { IfOk result FitsAct }
         ensures signs { Signs K.sign_gives result keys.old keys.new (λ signings. GoesOn result
             (λ told. Commits digest told self.old self.new (K.accepts keys.new) keys.new signings out.old

@@ -13,7 +13,7 @@ ghost use Rattle.node_model.specs.Steps.{own_rule, proposes};
 ghost use Rattle.view_core.specs.Fits.{FitsAct};
 ghost use Rattle.bft_node.specs.Calls.{AddsRule, MakesStep, Quiet, Taken, TellsDue, stage};
 ghost use Rattle.bft_node.specs.NodeFaults.{HasNodeCause, counts};
-ghost use Rattle.bft_node.specs.Outcomes.{KeepsRunning, devices};
+ghost use Rattle.bft_node.specs.Outcomes.{KeepsRunning, StaysSound, devices};
 ghost use Rattle.bft_node.specs.Running.{IsReady, IsSame, IsSound, state_of};
 ghost use Rattle.bft_node.specs.Signings.{Signs};
 
@@ -119,10 +119,7 @@ impl Running {
     ) -> Result<Act, NoMemory>
         requires sound { IsSound self.old }
         requires other { from ≢ self.old.id }
-        ensures same { IsSame self.old self.new }
-        ensures sound { IsSound self.new }
-        ensures ready { (tells : Bool) (moments : Items State)
-            → IsReady tells moments self.old → IsReady tells moments self.new }
+        ensures stays { StaysSound self.old self.new }
         ensures fits { IfOk result FitsAct }
         ensures told { IfOk result (λ told. (bytes : Items ℕ)
             → message_in bytes ≡ Some (message_of.Prepare message.now)
@@ -144,10 +141,7 @@ impl Running {
     fn hears<V: Verifier>(&mut self, from: u32, message: Message, keys: &V) -> Result<Act, NoMemory>
         requires sound { IsSound self.old }
         requires fits { FitsMessage message }
-        ensures same { IsSame self.old self.new }
-        ensures sound { IsSound self.new }
-        ensures ready { (tells : Bool) (moments : Items State)
-            → IsReady tells moments self.old → IsReady tells moments self.new }
+        ensures stays { StaysSound self.old self.new }
         ensures fits { IfOk result FitsAct }
         ensures told { IfOk result (λ told. (bytes : Items ℕ) → message_in bytes ≡ Some message
             → TellsDue (V.accepts keys.now)
@@ -175,10 +169,7 @@ impl Running {
     /// nothing.
     fn comes<V: Verifier>(&mut self, from: u32, bytes: &[u8], keys: &V) -> Result<Act, NoMemory>
         requires { IsSound self.old }
-        ensures same { IsSame self.old self.new }
-        ensures sound { IsSound self.new }
-        ensures ready { (tells : Bool) (moments : Items State)
-            → IsReady tells moments self.old → IsReady tells moments self.new }
+        ensures stays { StaysSound self.old self.new }
         ensures fits { IfOk result FitsAct }
         ensures told { IfOk result (λ told. TellsDue (V.accepts keys.now)
             (after_event (FromMember from bytes.now) (V.accepts keys.now) (state_of self.old))

@@ -67,10 +67,10 @@ returns-clause-runs g c =
     let keeps = c.in_ok-keep_acceptance.ensures.keeps in
     record {
       same = record {
-        id = c.told.ensures.same.id ∙ keeps.still.id;
-        config = c.told.ensures.same.config ∙ keeps.still.config;
+        id = c.told.ensures.stays.same.id ∙ keeps.still.id;
+        config = c.told.ensures.stays.same.config ∙ keeps.still.config;
       };
-      ready = c.told.ensures.ready _ _ c.in_ok-keep_acceptance.ensures.ready;
+      ready = c.told.ensures.stays.ready _ _ c.in_ok-keep_acceptance.ensures.ready;
       tells = c.keep_acceptance.ensures.tells;
       later = (c.keep_acceptance.ensures.later, omega arith);
       cause = tt;

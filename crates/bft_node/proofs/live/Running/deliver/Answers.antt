@@ -61,7 +61,7 @@ returns-clause-runs g c =
     let r = c.args.self.now in
     let mid = c.keep_delivery.new.self in
     let keeps = c.in_ok-keep_delivery.ensures.keeps in
-    let ready = c.told.ensures.ready _ _
+    let ready = c.told.ensures.stays.ready _ _
     (record {
       sound = delivered_sound r mid c.go_to.new.self c.args.block (Bft c.args.cert) c.requires.sound keeps.still
           (delivered_place r mid c.args.block (Bft c.args.cert) keeps.still.config
@@ -71,8 +71,8 @@ returns-clause-runs g c =
     }) in
     record {
       same = record {
-        id = c.told.ensures.same.id ∙ keeps.still.id;
-        config = c.told.ensures.same.config ∙ keeps.still.config;
+        id = c.told.ensures.stays.same.id ∙ keeps.still.id;
+        config = c.told.ensures.stays.same.config ∙ keeps.still.config;
       };
       ready = ready;
       tells = c.keep_delivery.ensures.tells;

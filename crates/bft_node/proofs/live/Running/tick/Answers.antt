@@ -102,10 +102,10 @@ returns-clause-makes g c =
     c.in_ok-repeat.ensures.makes c.acts.ensures.makes
 
 pub propose-requires : goal.propose-requires
-propose-requires g c = c.repeat.ensures.ready _ _ c.requires
+propose-requires g c = c.repeat.ensures.stays.ready _ _ c.requires
 
 pub acts-requires-clause-ready : goal.acts-requires-clause-ready
-acts-requires-clause-ready g c = c.told.ensures.ready _ _ c.in_ok-propose.ensures.runs.ready
+acts-requires-clause-ready g c = c.told.ensures.stays.ready _ _ c.in_ok-propose.ensures.runs.ready
 
 pub acts-requires-clause-due : goal.acts-requires-clause-due
 acts-requires-clause-due g c =
