@@ -1,14 +1,14 @@
 -- What a node holds on its disk, and what an opening makes of what a crash leaves of it.
-use Rattle.std.specs.Prelude.{◌≡◌, ℕ, ◌≤◌, List, [], ◌∷◌, ◌++◌, length, take, Ok}
+use Rattle.std.specs.Prelude.{◌≡◌, ℕ, ◌≤◌, List, [], ◌∷◌, ◌++◌, length, take}
 use Rattle.ord_types.specs.Genesis.{IsGenesisConfig}
 use Rattle.ord_types.specs.declared.values.Config.{Config}
 use Rattle.gate_log.specs.Disk.{State}
 use Rattle.signer_edge.specs.Accepts.{Accepts as Acceptance}
 use Rattle.signer_edge.specs.Signing.{KeepsAccepted}
-use Rattle.bft_wal.specs.Opening.{opens_as}
+use Rattle.bft_wal.specs.Opening.{KeepsRecords}
 use Rattle.bft_wal.specs.declared.record.WalRecord.{WalRecord}
 use Rattle.block_ledger.specs.Chains.{Entry as Stored, IsChain, genesis_entry}
-use Rattle.block_ledger.specs.Reading.{Chain, stands_for}
+use Rattle.block_ledger.specs.Reading.{KeepsChain}
 use Rattle.node_model.specs.Cores.{Core, after_entries, core_on}
 use Rattle.node_model.specs.Entries.{Entry, statements_of, stored_of}
 use Rattle.bft_node.specs.Crashes.{Image, IsCrash}
@@ -17,13 +17,13 @@ use Rattle.bft_node.specs.Standing.{Stands}
 use Rattle.bft_node.specs.Stores.{IsKept, StaysOpen, config_of, held_of}
 use Rattle.bft_node.specs.declared.live.Running.{Running}
 
--- Files that keep a chain and what a node did: the ledger's file stands for the chain, and an opening finds
--- the node as it was, but for the vote messages that it kept.
+-- Files that keep a chain and what a node did: an opening finds the node as it was, but for the vote messages
+-- that it kept.
 pub record Keeps (accepts : Acceptance) (c : Config) (me : ℕ) (image : Image) (chain : List Stored)
     (core : Core) : Type 0 where
-  pub ledger : stands_for accepts c (image 2) ≡ Chain chain
+  pub ledger : KeepsChain accepts c image chain
   pub records : List WalRecord
-  pub log : opens_as (image 0) ≡ Ok records
+  pub log : KeepsRecords image records
   pub stands : Stands c me (record { blocks = chain; records = records }) core
 
 -- A node holds what it did on a disk in this state, and its blocks are a chain by what is accepted.

@@ -5,11 +5,10 @@ use Rattle.ord_types.specs.Grammar.{IsNumber}
 use Rattle.ord_types.specs.declared.values.Place.{Place}
 use Rattle.gate_log.specs.Disk.{State, now}
 use Rattle.block_ledger.specs.Chains.{Entry}
-use Rattle.block_ledger.specs.Ledgers.{blocks_of}
-use Rattle.block_ledger.specs.Places.{place_after}
+use Rattle.block_ledger.specs.Ledgers.{blocks_of, stands_at}
 use Rattle.node_model.specs.Cores.{Core, Found}
 use Rattle.view_core.specs.Places.{IsPlace, StandsAt}
-use Rattle.bft_node.specs.Stores.{IsKept, config_of, held_of}
+use Rattle.bft_node.specs.Stores.{IsKept, config_of}
 use Rattle.bft_node.specs.declared.live.Found.{Found as Kept}
 use Rattle.bft_node.specs.declared.live.Running.{Running}
 
@@ -19,7 +18,7 @@ chain_of r = blocks_of r.store.ledger
 
 -- where its ledger stands
 abbrev pub place_of : Running → Place
-place_of r = place_after (config_of r.store) (held_of r.store).blocks
+place_of r = stands_at r.store.ledger
 
 abbrev pub as_found : Option Kept → Option Found
 as_found found =
