@@ -8,7 +8,7 @@ use Rattle.ord_types.specs.declared.values.Block.{Block}
 use Rattle.ord_types.specs.declared.values.Config.{Config}
 use Rattle.ord_types.specs.declared.values.Place.{Place}
 use Rattle.gate_log.specs.Disk.{State, now}
-use Rattle.gate_log.specs.Runs.{Went}
+use Rattle.gate_log.specs.Runs.{Throughout}
 use Rattle.gate_log.proofs.Going.{last_of}
 use Rattle.safety_model.specs.declared.fact.Fact.{Fact}
 use Rattle.safety_model.specs.declared.fact.Fact.TheVariants.{Accepted}
@@ -94,7 +94,7 @@ still_sound r new id view place s =
 
 -- for a judge who accepts at least as much, from what holds for each who finds a chain
 pub keeps_within : (deed : Deed) (r : Running) (tells : Bool) (before after : List State)
-    → ((judge : Accepting) → IsTrue tells → IsChain judge (config_of r.store) (held_of r.store).blocks → Went (Within judge (config_of r.store) (deed ∷ []) (held_of r.store)) before after)
+    → ((judge : Accepting) → IsTrue tells → IsChain judge (config_of r.store) (held_of r.store).blocks → Throughout (Within judge (config_of r.store) (deed ∷ []) (held_of r.store)) before after)
     → (accepts : Accepting) → KeepsWithin deed r accepts tells before after
 keeps_within deed r tells before after went accepts judge keeps chain told =
     went judge told (chain_stays accepts judge (config_of r.store) (held_of r.store).blocks keeps chain)
@@ -121,7 +121,7 @@ needs_limit tells state store deed limit before later fault (Err e) kept same an
 -- every crash at the end opens to what was held, with the deed or without
 last_within : (judge : Accepting) (store : Store) (deed : Deed) (before after : List State) → IsKept store (now before)
     → IsChain judge (config_of store) (held_of store).blocks
-    → Went (Within judge (config_of store) (deed ∷ []) (held_of store)) before after
+    → Throughout (Within judge (config_of store) (deed ∷ []) (held_of store)) before after
     → Within judge (config_of store) (deed ∷ []) (held_of store) (now after)
 last_within judge store deed before after kept chain went =
     last_of (Within judge (config_of store) (deed ∷ []) (held_of store)) before after
@@ -176,11 +176,11 @@ module _ (b : Before) (made : List Entry) (told : Act) (r : Running) (accepts : 
   kept_went began judge keeps t =
       let here = within judge keeps (here_chain began) t in
       let by_config =
-      subst (λ (c : Config). Went (Within judge c (deed ∷ []) (held_of r.store)) moments after) h.config here in
-      let by_deed = subst (λ (d : Deed). Went (Within judge b.config (d ∷ []) (held_of r.store)) moments after) same
+      subst (λ (c : Config). Throughout (Within judge c (deed ∷ []) (held_of r.store)) moments after) h.config here in
+      let by_deed = subst (λ (d : Deed). Throughout (Within judge b.config (d ∷ []) (held_of r.store)) moments after) same
       by_config in
-      let by_held = subst (λ (x : Held). Went (Within judge b.config (next ∷ []) x) moments after) h.held by_deed in
-      subst (λ (l : List Deed). Went (Within judge b.config l b.held) b.moments after)
+      let by_held = subst (λ (x : Held). Throughout (Within judge b.config (next ∷ []) x) moments after) h.held by_deed in
+      subst (λ (l : List Deed). Throughout (Within judge b.config l b.held) b.moments after)
       (sym (deeds-append made (Did next ∷ [])))
       (runs_go_on judge b.config (deeds_of made) (next ∷ []) b.held b.moments moments after
       (h.went began judge keeps t) by_held)

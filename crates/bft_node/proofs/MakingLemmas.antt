@@ -38,7 +38,7 @@ use Rattle.std.proofs.lemmas.List.{append-nil, map-append, take-append-le}
 use Rattle.std.proofs.lemmas.List.Concat.{flat_map-append}
 use Rattle.std.proofs.lemmas.Option.{slice_get_within}
 use Rattle.gate_log.specs.Disk.{State, now}
-use Rattle.gate_log.specs.Runs.{Went}
+use Rattle.gate_log.specs.Runs.{Throughout}
 use Rattle.safety_model.specs.declared.fact.Fact.{Fact}
 use Rattle.ord_types.specs.declared.values.Config.{Config}
 use Rattle.ord_types.specs.declared.values.Place.{Place}
@@ -150,7 +150,7 @@ core-append b made more = after_append made more b.core
 pub goes_within : (b : Before) (made more : List Entry) (accepts : Accepts) (tells : Bool) (moments : List State)
     → GoesWithin b made accepts tells moments → GoesWithin b (made ++ more) accepts tells moments
 goes_within b made more accepts tells moments went = λ began judge keeps told.
-    subst (λ ds. Went (Within judge b.config ds b.held) b.moments moments) (sym (deeds-append made more))
+    subst (λ ds. Throughout (Within judge b.config ds b.held) b.moments moments) (sym (deeds-append made more))
     (runs_within judge b.config (deeds_of made) (deeds_of more) b.held b.moments moments (went began judge keeps told))
 
 -- more may be accepted

@@ -11,14 +11,14 @@ use Rattle.gate_log.specs.Disk.{State}
 use Rattle.signer_edge.specs.Accepts.{Accepts}
 use Rattle.bft_wal.specs.Fold.{durable_of}
 use Rattle.bft_wal.specs.declared.durable.Durable.{Durable}
-use Rattle.block_ledger.specs.Chains.{IsGenesis}
+use Rattle.block_ledger.specs.Chains.{IsGenesisBlock}
 use Rattle.block_ledger.proofs.Opened.{one_config}
 use Rattle.view_model.specs.Acts.{View}
 use Rattle.node_model.specs.Cores.{Core, Found, found_in}
 use Rattle.view_core.specs.Places.{IsPlace}
 use Rattle.bft_node.specs.Returning.{opened, view_at}
 use Rattle.bft_node.specs.Running.{IsSound, as_found, place_of, state_of}
-use Rattle.bft_node.specs.Stores.{OpensTo, config_of, held_of}
+use Rattle.bft_node.specs.Stores.{StoreOpensTo, config_of, held_of}
 use Rattle.bft_node.specs.declared.live.Running.{Running}
 use Rattle.bft_node.specs.declared.store.Store.{Store}
 
@@ -53,12 +53,12 @@ module _ (r : Running) (durable : Durable)
       (found_in (place_of r) (opened (config_of r.store) r.id (held_of r.store)).view)) view
 
 -- the configuration with whose block a store was opened
-pub opened_on : (store : Store) (c : Config) (block : Block) → IsGenesisConfig c → block ≡ genesis_block c → IsGenesis (config_of store) block → config_of store ≡ c
+pub opened_on : (store : Store) (c : Config) (block : Block) → IsGenesisConfig c → block ≡ genesis_block c → IsGenesisBlock (config_of store) block → config_of store ≡ c
 opened_on store c block first is opens = one_config (config_of store) c block opens (record { config = first; block = is })
 
 -- the same store
-pub opens_moved : (accepts : Accepts) (c : Config) (state : State) (store moved : Store) → moved ≡ store → OpensTo accepts c state (Ok store) → OpensTo accepts c state (Ok moved)
-opens_moved accepts c state store moved is opens = subst (λ (s : Store). OpensTo accepts c state (Ok s)) (sym is) opens
+pub opens_moved : (accepts : Accepts) (c : Config) (state : State) (store moved : Store) → moved ≡ store → StoreOpensTo accepts c state (Ok store) → StoreOpensTo accepts c state (Ok moved)
+opens_moved accepts c state store moved is opens = subst (λ (s : Store). StoreOpensTo accepts c state (Ok s)) (sym is) opens
 
 -- what it stands for there
 pub state_moved : (r : Running) (c : Config) (me : ℕ) (store : Store) → r.store ≡ store → config_of store ≡ c → state_of r ≡ opened (config_of store) me (held_of store)

@@ -4,19 +4,19 @@ use Rattle.std.specs.Prelude.{◌==◌, if◌then◌else◌, IsErrAnd, Result}
 use Rattle.std.proofs.lemmas.Bool.Decides.{eqb_tells}
 use Rattle.ord_types.specs.declared.values.Config.{Config}
 use Rattle.gate_log.specs.Disk.{File, State, MayLeave, now}
-use Rattle.gate_log.specs.Runs.{Leaves, OnlyIn, Went}
+use Rattle.gate_log.specs.Runs.{Leaves, OnlyIn, Throughout}
 use Rattle.gate_log.specs.declared.fault.LogFault.{LogFault}
 use Rattle.gate_log.specs.declared.fault.LogFault.TheVariants as log_of
 use Rattle.gate_log.proofs.Going.{last_of, then_went, went_to}
 use Rattle.signer_edge.specs.Accepts.{Accepts}
-use Rattle.bft_wal.specs.Opening.{OpensAsBefore as LogAsBefore, OpensTo as LogOpensTo, opens_as}
+use Rattle.bft_wal.specs.Opening.{OpensAsBefore as LogAsBefore, RecordsOpenTo, opens_as}
 use Rattle.bft_wal.specs.declared.record.WalRecord.{WalRecord}
 use Rattle.block_ledger.specs.Ledgers.{StandsAsBefore}
 use Rattle.bft_node.specs.Crashes.{Image}
 use Rattle.bft_node.specs.Openings.{log_fault}
 use Rattle.bft_node.specs.declared.fault.OpenFault.{OpenFault}
 use Rattle.bft_node.specs.declared.store.Store.{Store}
-use Rattle.bft_node.specs.Stores.{HasChain, OpensTo, StaysOpen}
+use Rattle.bft_node.specs.Stores.{HasChain, StoreOpensTo, StaysOpen}
 
 -- the same files but for one
 abbrev with_file : ℕ → List ℕ → Image → Image
@@ -65,10 +65,10 @@ log_stays accepts c before mid state first only =
       others = λ file no_log no_ledger. only.others file no_log ∙ first.others file no_ledger;
     }
 
-pub went_ledger : (accepts : Accepts) (c : Config) (old new : List State) → Leaves 2 (StandsAsBefore accepts c (now old 2)) old new → Went (StaysOpen accepts c (now old)) old new
+pub went_ledger : (accepts : Accepts) (c : Config) (old new : List State) → Leaves 2 (StandsAsBefore accepts c (now old 2)) old new → Throughout (StaysOpen accepts c (now old)) old new
 went_ledger accepts c old new went = went_to (OnlyIn 2 (StandsAsBefore accepts c (now old 2)) (now old)) (StaysOpen accepts c (now old)) (ledger_stays accepts c (now old)) old new went
 
-pub went_both : (accepts : Accepts) (c : Config) (old mid new : List State) → Leaves 2 (StandsAsBefore accepts c (now old 2)) old mid → Leaves 0 (LogAsBefore (now mid 0)) mid new → Went (StaysOpen accepts c (now old)) old new
+pub went_both : (accepts : Accepts) (c : Config) (old mid new : List State) → Leaves 2 (StandsAsBefore accepts c (now old 2)) old mid → Leaves 0 (LogAsBefore (now mid 0)) mid new → Throughout (StaysOpen accepts c (now old)) old new
 went_both accepts c old mid new first second =
     let here : OnlyIn 2 (StandsAsBefore accepts c (now old 2)) (now old) (now old) =
     record { crash = λ bytes left. record { image = bytes; left = left; same = refl }; others = λ other not. refl } in
@@ -77,13 +77,13 @@ went_both accepts c old mid new first second =
     (went_to (OnlyIn 0 (LogAsBefore (now mid 0)) (now mid)) (StaysOpen accepts c (now old)) (λ s only. log_stays accepts c (now old) (now mid) s last only) mid new second)
 
 -- an answer that is this fault
-pub told_err : (accepts : Accepts) (c : Config) (before : State) (r : Result Store OpenFault) (fault : OpenFault) → IsErrAnd r (λ told. told ≡ fault) → OpensTo accepts c before (Err fault) → OpensTo accepts c before r
+pub told_err : (accepts : Accepts) (c : Config) (before : State) (r : Result Store OpenFault) (fault : OpenFault) → IsErrAnd r (λ told. told ≡ fault) → StoreOpensTo accepts c before (Err fault) → StoreOpensTo accepts c before r
 told_err accepts c before (Ok store) fault is told = absurd is
-told_err accepts c before (Err other) fault is told = subst (λ (f : OpenFault). OpensTo accepts c before (Err f)) (sym is) told
+told_err accepts c before (Err other) fault is told = subst (λ (f : OpenFault). StoreOpensTo accepts c before (Err f)) (sym is) told
 
 -- the fault of a log behind a ledger that has none
 pub log_told : (accepts : Accepts) (c : Config) (before : State) (opens : Result (List WalRecord) ℕ) (fault : LogFault) → HasChain accepts c before → opens ≡ opens_as (before 0).reads
-    → LogOpensTo opens (Err fault) → OpensTo accepts c before (Err (log_fault fault))
+    → RecordsOpenTo opens (Err fault) → StoreOpensTo accepts c before (Err (log_fault fault))
 log_told accepts c before opens (log_of.Foreign at) chain is told = inr (refl, chain, sym is ∙ told)
 log_told accepts c before opens (log_of.TooLong n) chain is told = told
 log_told accepts c before opens log_of.NoMemory chain is told = tt

@@ -24,7 +24,7 @@ use Rattle.std.proofs.Common.{
 use Rattle.std.proofs.lemmas.List.{append-nil}
 use Rattle.ord_types.specs.declared.values.Config.{Config}
 use Rattle.gate_log.specs.Disk.{State, now}
-use Rattle.gate_log.specs.Runs.{Went}
+use Rattle.gate_log.specs.Runs.{Throughout}
 use Rattle.gate_log.proofs.Going.{went_to}
 use Rattle.signer_edge.specs.Accepts.{Accepts as Acceptance}
 use Rattle.signer_edge.specs.Signing.{KeepsAccepted}
@@ -70,7 +70,7 @@ use Rattle.bft_node.specs.NodeOpenings.{IsFoundAgain, files_at}
 use Rattle.bft_node.specs.Returning.{opened}
 use Rattle.bft_node.specs.Running.{chain_of, state_of}
 use Rattle.bft_node.specs.Standing.{Stands}
-use Rattle.bft_node.specs.Stores.{IsKept, OpensTo, config_of, held_of}
+use Rattle.bft_node.specs.Stores.{IsKept, StoreOpensTo, config_of, held_of}
 use Rattle.bft_node.specs.declared.live.Running.{Running}
 use Rattle.bft_node.proofs.GoingOn.{begins_standing, stands_same, steps_keep_standing}
 use Rattle.bft_node.proofs.Running.{store_opens, store_stays}
@@ -191,8 +191,8 @@ module _ (accepts : Acceptance) (old : Running) (keys : Keys) (event : Event)
       }
 
   pub went_keeps : (before after : List State)
-      → Went (Within accepts c (deeds_of made) (held_of old.store)) before after
-      → Went (λ state. (image : Image) → IsCrash state image → KeepsFront accepts old made image) before after
+      → Throughout (Within accepts c (deeds_of made) (held_of old.store)) before after
+      → Throughout (λ state. (image : Image) → IsCrash state image → KeepsFront accepts old made image) before after
   went_keeps before after went =
       went_to (Within accepts c (deeds_of made) (held_of old.store))
       (λ state. (image : Image) → IsCrash state image → KeepsFront accepts old made image)
@@ -212,7 +212,7 @@ held_with bs rs = record { blocks = bs; records = rs }
 -- a node that was opened on files that keep a chain and what a node did
 pub found_again : (accepts : Acceptance) (c : Config) (me : ℕ) (before after : State) (r : Running)
     → r.id ≡ me → config_of r.store ≡ c → IsChain accepts c (chain_of r)
-    → state_of r ≡ opened c me (held_of r.store) → OpensTo accepts c before (Ok r.store) → IsKept r.store after
+    → state_of r ≡ opened c me (held_of r.store) → StoreOpensTo accepts c before (Ok r.store) → IsKept r.store after
     → (chain : List Stored) (core : Core) → Keeps accepts c me (files_at before) chain core
     → IsFoundAgain accepts r after chain core
 found_again accepts c me before after r id config is_chain state opens kept chain core keeps =

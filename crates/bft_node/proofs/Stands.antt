@@ -12,7 +12,7 @@ use Rattle.signer_edge.specs.Signing.{KeepsAccepted}
 use Rattle.block_ledger.specs.declared.fault.StoredWhy.{StoredWhy}
 use Rattle.block_ledger.specs.declared.fault.StoredWhy.TheVariants.{Grammar}
 use Rattle.block_ledger.specs.Chains.{Entry}
-use Rattle.block_ledger.specs.Entries.{place_of, read_entry}
+use Rattle.block_ledger.specs.Entries.{fault_place, read_entry}
 use Rattle.block_ledger.specs.Judging.{entry_fault, next_refusal, stored_why}
 use Rattle.block_ledger.specs.Places.{place_after}
 use Rattle.block_ledger.specs.Reading.{Stored, Bad, Chain, bad_or, read_behind, read_chain, stands_as, stands_for}
@@ -38,7 +38,7 @@ module _ (old new : Accepts) (keeps : KeepsAccepted old new) (c : Config) (chain
   read_on accepts before more read =
       elim read [
         | Ok e ↦ bad_or (length before) (entry_fault accepts c before e) (read_behind accepts c (before ++ e ∷ []) more)
-        | Err fault ↦ Bad (length before) (Grammar (place_of fault))
+        | Err fault ↦ Bad (length before) (Grammar (fault_place fault))
       ]
 
   on_more : (before : List Entry) (more : List (List ℕ)) (read : Result Entry ReadFault)

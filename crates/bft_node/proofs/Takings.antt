@@ -28,7 +28,7 @@ use Rattle.std.proofs.lemmas.List.{take_all}
 use Rattle.ord_types.specs.declared.values.Config.{Config}
 use Rattle.ord_types.specs.declared.values.Place.{Place}
 use Rattle.gate_log.specs.Disk.{State, now}
-use Rattle.gate_log.specs.Runs.{Went}
+use Rattle.gate_log.specs.Runs.{Throughout}
 use Rattle.signer_edge.specs.Accepts.{Accepts as Acceptance}
 use Rattle.signer_edge.specs.Signing.{KeepsAccepted}
 use Rattle.block_ledger.specs.Chains.{IsChain}
@@ -119,20 +119,20 @@ module _ (model : Keys) (old new : Running) (event : Event) (signed : List (List
         same_core (place_of new) (after_entries made (state_of old)).place new.view (after_entries made (state_of old)).view
         (as_found new.found) (after_entries made (state_of old)).found h.place h.view h.found
 
-    chain_is : Holds first old (now before) → (judge : Acceptance) → KeepsAccepted accepts judge
+    chain_is : IsChain first c (held_of old.store).blocks → (judge : Acceptance) → KeepsAccepted accepts judge
         → IsChain judge (config_of new.store) (held_of new.store).blocks
-    chain_is holds judge keeps =
+    chain_is chain judge keeps =
         subst (λ (k : Config). IsChain judge k (held_of new.store).blocks) (sym h.config)
-        (chain_stays accepts judge c (held_of new.store).blocks keeps (h.chain holds.chain))
+        (chain_stays accepts judge c (held_of new.store).blocks keeps (h.chain chain))
 
-    all_opens : IsKept new.store (now after) → Holds first old (now before) → (judge : Acceptance)
+    all_opens : IsKept new.store (now after) → IsChain first c (held_of old.store).blocks → (judge : Acceptance)
         → KeepsAccepted accepts judge → (image : Image) → IsCrash (now after) image
         → Opens judge c image (with_deeds (deeds_of (take (length made) made)) (held_of old.store))
-    all_opens kept holds judge keeps image crash =
+    all_opens kept chain judge keeps image crash =
         subst (λ (l : List Entry). Opens judge c image (with_deeds (deeds_of l) (held_of old.store))) (sym whole)
         (subst (λ (held : Held). Opens judge c image held) h.held
         (subst (λ (k : Config). Opens judge k image (held_of new.store)) h.config
-        (store_opens judge new.store (now after) kept (chain_is holds judge keeps) image crash)))
+        (store_opens judge new.store (now after) kept (chain_is chain judge keeps) image crash)))
 
     all_kept : (IsTrue tells → IsKept new.store (now after)) → statements_of made ≡ signed
         → IsTrue tells → StepsLeave old made signed first accepts before after
@@ -142,7 +142,7 @@ module _ (model : Keys) (old new : Running) (event : Event) (signed : List (List
             cut = length made;
             some = omega arith;
             keeps = front_keeps judge old model event holds.stands (length made) image
-                (all_opens (kept t) holds judge keeps image crash);
+                (all_opens (kept t) holds.chain judge keeps image crash);
           };
           signed = sym all ∙ ap statements_of (sym whole);
         }
@@ -173,6 +173,7 @@ module _ (model : Keys) (old new : Running) (event : Event) (signed : List (List
         record {
           steps = record {
             state = state_is;
+            held = h.held;
             chain = ap (λ (held : Held). held.blocks) h.held ∙ blocks_with made (held_of old.store);
             facts = h.facts;
             sends = h.sends;
@@ -180,6 +181,15 @@ module _ (model : Keys) (old new : Running) (event : Event) (signed : List (List
             signed_all = sym all;
             nothing_due = none_due all placed;
           };
+          chain = h.chain;
+          opens_within = λ t chain judge keeps. h.went chain judge keeps t;
+          opens_signed = λ t chain judge keeps image crash.
+              record {
+                cut = length made;
+                some = omega arith;
+                opens = all_opens (kept t) chain judge keeps image crash;
+                signatures = sym all ∙ ap statements_of (sym whole);
+              };
           within = λ t holds judge keeps.
               went_keeps judge old model event holds.stands before after (h.went holds.chain judge keeps t);
           leaves = all_kept kept all;
@@ -202,6 +212,9 @@ module _ (model : Keys) (old new : Running) (event : Event) (signed : List (List
   takes_err (Err x) fault is h =
       record {
         steps = h.signed_first;
+        chain = tt;
+        opens_within = λ t chain judge keeps. h.went chain judge keeps t;
+        opens_signed = λ t chain judge keeps image crash. h.left chain judge keeps t image crash;
         within = λ t holds judge keeps.
             went_keeps judge old model event holds.stands before after (h.went holds.chain judge keeps t);
         leaves = λ t holds judge keeps image crash.

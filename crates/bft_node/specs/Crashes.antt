@@ -1,10 +1,10 @@
 -- What a crash leaves of a disk, and what it opens to.
-use Rattle.std.specs.Prelude.{◌≡◌, ℕ, ◌<◌, ◌≤◌, List, length, take, Ok}
+use Rattle.std.specs.Prelude.{ℕ, ◌<◌, ◌≤◌, List, length, take}
 use Rattle.ord_types.specs.declared.values.Config.{Config}
 use Rattle.gate_log.specs.Disk.{State, MayLeave}
 use Rattle.signer_edge.specs.Accepts.{Accepts}
-use Rattle.bft_wal.specs.Opening.{opens_as}
-use Rattle.block_ledger.specs.Reading.{Chain, stands_for}
+use Rattle.bft_wal.specs.Opening.{KeepsRecords}
+use Rattle.block_ledger.specs.Reading.{KeepsChain}
 use Rattle.node_model.specs.Entries.{Deed}
 use Rattle.bft_node.specs.Held.{Held, with_deeds}
 
@@ -16,10 +16,10 @@ Image = ℕ → List ℕ
 abbrev pub IsCrash : State → Image → Type 0
 IsCrash state image = (file : ℕ) → file < 3 → MayLeave (state file) (image file)
 
--- The ledger's file stands for the blocks, and the log's opens to the records.
+-- The files keep the blocks and the records.
 pub record Opens (accepts : Accepts) (c : Config) (image : Image) (held : Held) : Type 0 where
-  pub ledger : stands_for accepts c (image 2) ≡ Chain held.blocks
-  pub log : opens_as (image 0) ≡ Ok held.records
+  pub ledger : KeepsChain accepts c image held.blocks
+  pub log : KeepsRecords image held.records
 
 -- It opens to what the first of these deeds leave.
 pub record OpensAfter (accepts : Accepts) (c : Config) (deeds : List Deed) (held : Held) (image : Image)

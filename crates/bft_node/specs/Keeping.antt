@@ -1,7 +1,7 @@
 -- A deed that was made durable and told.
 use Rattle.std.specs.Prelude.{◌≡◌, Bool, List, [], ◌∷◌, ◌++◌, map, IsTrue}
 use Rattle.gate_log.specs.Disk.{State}
-use Rattle.gate_log.specs.Runs.{Went}
+use Rattle.gate_log.specs.Runs.{Throughout}
 use Rattle.signer_edge.specs.Accepts.{Accepts}
 use Rattle.signer_edge.specs.Signing.{KeepsAccepted}
 use Rattle.block_ledger.specs.Chains.{IsChain}
@@ -35,4 +35,4 @@ KeepsWithin deed r accepts tells before after =
     (judge : Accepts) → KeepsAccepted accepts judge
     → IsChain accepts (config_of r.store) (held_of r.store).blocks
     → IsTrue tells
-    → Went (Within judge (config_of r.store) (deed ∷ []) (held_of r.store)) before after
+    → Throughout (Within judge (config_of r.store) (deed ∷ []) (held_of r.store)) before after

@@ -2,7 +2,7 @@
 use Rattle.std.specs.Prelude.{◌≡◌, List, ◌++◌}
 use Rattle.ord_types.specs.declared.values.Config.{Config}
 use Rattle.gate_log.specs.Disk.{State}
-use Rattle.gate_log.specs.Runs.{Went}
+use Rattle.gate_log.specs.Runs.{Throughout}
 use Rattle.signer_edge.specs.Accepts.{Accepts}
 use Rattle.block_ledger.specs.Chains.{IsChain}
 use Rattle.node_model.specs.Entries.{Deed}
@@ -27,12 +27,12 @@ KeptStoreStays =
 abbrev pub RunsGoOn : Type 0
 RunsGoOn =
     (accepts : Accepts) (c : Config) (first more : List Deed) (held : Held) (old mid new : List State)
-    → Went (Within accepts c first held) old mid
-    → Went (Within accepts c more (with_deeds first held)) mid new
-    → Went (Within accepts c (first ++ more) held) old new
+    → Throughout (Within accepts c first held) old mid
+    → Throughout (Within accepts c more (with_deeds first held)) mid new
+    → Throughout (Within accepts c (first ++ more) held) old new
 
 -- a run within some deeds is one within more
 abbrev pub RunsAreWithin : Type 0
 RunsAreWithin =
     (accepts : Accepts) (c : Config) (first more : List Deed) (held : Held) (old new : List State)
-    → Went (Within accepts c first held) old new → Went (Within accepts c (first ++ more) held) old new
+    → Throughout (Within accepts c first held) old new → Throughout (Within accepts c (first ++ more) held) old new

@@ -19,7 +19,7 @@ use Rattle.gate_log.specs.Arms.{armed}
 use Rattle.gate_log.specs.Disk.{now}
 use Rattle.gate_log.specs.History.{states}
 use Rattle.gate_log.specs.Memory.{IsUncounted}
-use Rattle.gate_log.specs.Runs.{Went}
+use Rattle.gate_log.specs.Runs.{Throughout}
 use Rattle.gate_log.specs.declared.image.Image.{Image}
 use Rattle.gate_log.specs.declared.memory.MemDisk.{MemDisk}
 use Rattle.signer_edge.specs.Accepts.{Accepts as Acceptance}
@@ -35,7 +35,7 @@ use Rattle.bft_node.specs.Returning.{opened}
 use Rattle.bft_node.specs.Recovering.{Holds, Keeps}
 use Rattle.bft_node.specs.Running.{chain_of, state_of}
 use Rattle.bft_node.specs.Signings.{Signing, Signs}
-use Rattle.bft_node.specs.Stores.{IsKept, OpensTo, StaysOpen, config_of, held_of}
+use Rattle.bft_node.specs.Stores.{IsKept, StoreOpensTo, StaysOpen, config_of, held_of}
 use Rattle.bft_node.specs.declared.fault.OpenFault.{OpenFault}
 use Rattle.bft_node.specs.declared.live.Out.{Out}
 use Rattle.bft_node.specs.declared.live.Setup.{Setup}
@@ -83,11 +83,11 @@ pub record IsOpenedOn (setup : Setup) (accepts : Acceptance) (disk : MemDisk) (l
   pub config : config_of l.node.running.store ≡ setup.genesis
   pub chain : IsChain accepts setup.genesis (chain_of l.node.running)
   pub state : state_of l.node.running ≡ opened setup.genesis setup.me (held_of l.node.running.store)
-  pub value : OpensTo accepts setup.genesis (now (states disk.history)) (Ok l.node.running.store)
+  pub value : StoreOpensTo accepts setup.genesis (now (states disk.history)) (Ok l.node.running.store)
   pub finds : (chain : List Stored) (core : Core)
       → Keeps accepts setup.genesis setup.me (files_of disk) chain core
       → IsFound accepts l chain core
-  pub any_moment : Went (StaysOpen accepts setup.genesis (now (states disk.history))) (states disk.history)
+  pub any_moment : Throughout (StaysOpen accepts setup.genesis (now (states disk.history))) (states disk.history)
       (states l.disk.history)
   pub kept : IsKept l.node.running.store (now (states l.disk.history))
 
@@ -96,7 +96,7 @@ abbrev pub Adds : Lodging → Lodging → Setup → Acceptance → MemDisk → R
 Adds before after setup accepts disk (Ok _) =
     (l : Lodged) × IsOpenedOn setup accepts disk l × Becomes before after setup.me (Some l)
 Adds before after setup accepts disk (Err fault) =
-    StaysAlike before after × OpensTo accepts setup.genesis (now (states disk.history)) (Err fault)
+    StaysAlike before after × StoreOpensTo accepts setup.genesis (now (states disk.history)) (Err fault)
 
 -- what a step comes to by what the keys signed
 abbrev pub TakesSealed : Lodged → Lodged → Event → Seat → Result Out NodeFault → List (Signing Seat) → Type 0

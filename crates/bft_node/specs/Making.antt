@@ -22,7 +22,7 @@ use Rattle.std.specs.Prelude.{
 use Rattle.ord_types.specs.declared.values.Config.{Config}
 use Rattle.ord_types.specs.declared.values.Place.{Place}
 use Rattle.gate_log.specs.Disk.{State, now}
-use Rattle.gate_log.specs.Runs.{Went}
+use Rattle.gate_log.specs.Runs.{Throughout}
 use Rattle.safety_model.specs.declared.fact.Fact.{Fact}
 use Rattle.signer_edge.specs.Accepts.{Accepts as Acceptance}
 use Rattle.signer_edge.specs.Signing.{KeepsAccepted}
@@ -134,7 +134,7 @@ around accepts tells moments out =
 abbrev pub GoesWithin : Before → List Entry → Acceptance → Bool → List State → Type 0
 GoesWithin b made accepts tells moments =
     BeganOnChain b → (judge : Acceptance) → KeepsAccepted accepts judge → IsTrue tells
-    → Went (Within judge b.config (deeds_of made) b.held) b.moments moments
+    → Throughout (Within judge b.config (deeds_of made) b.held) b.moments moments
 
 -- The node and what is outside it stand as these entries leave them, and the view has taken the act that it
 -- told.

@@ -8,15 +8,15 @@ use Rattle.node_model.specs.Cores.{Core, after_opening}
 use Rattle.bft_node.specs.Crashes.{Image}
 use Rattle.bft_node.specs.Recovering.{Holds, Keeps}
 use Rattle.bft_node.specs.Running.{chain_of, state_of}
-use Rattle.bft_node.specs.Stores.{OpensTo}
+use Rattle.bft_node.specs.Stores.{StoreOpensTo}
 use Rattle.bft_node.specs.declared.fault.OpenFault.{OpenFault}
 use Rattle.bft_node.specs.declared.live.Running.{Running}
 use Rattle.bft_node.specs.declared.member.Node.{Node}
 
 -- as its store is opened
 abbrev pub NodeOpens : Accepts → Config → State → Result Node OpenFault → Type 0
-NodeOpens accepts c state (Ok node) = OpensTo accepts c state (Ok node.running.store)
-NodeOpens accepts c state (Err fault) = OpensTo accepts c state (Err fault)
+NodeOpens accepts c state (Ok node) = StoreOpensTo accepts c state (Ok node.running.store)
+NodeOpens accepts c state (Err fault) = StoreOpensTo accepts c state (Err fault)
 
 -- what the files of a disk in this state read as
 abbrev pub files_at : State → Image

@@ -25,7 +25,7 @@ use Rattle.std.specs.Prelude.{
 use Rattle.ord_types.specs.Causes.{Rose}
 use Rattle.ord_types.specs.declared.values.Config.{Config}
 use Rattle.gate_log.specs.Disk.{State}
-use Rattle.gate_log.specs.Runs.{Went}
+use Rattle.gate_log.specs.Runs.{Throughout}
 use Rattle.gate_log.specs.Settled.{too_long}
 use Rattle.gate_log.specs.declared.fault.LogFault.{LogFault}
 use Rattle.gate_log.specs.declared.fault.LogFault.TheVariants as log_of
@@ -73,7 +73,7 @@ IsStoredAs deed entry =
 -- at each moment every crash opens to what a store held, with this deed or without
 abbrev pub WritesWithin : Store → Deed → Accepts → List State → List State → Type 0
 WritesWithin store deed accepts before after =
-    Went (Within accepts (config_of store) (deed ∷ []) (held_of store)) before after
+    Throughout (Within accepts (config_of store) (deed ∷ []) (held_of store)) before after
 
 -- the length that a record or its file would get, where it is too great
 abbrev pub log_limit : Store → WalRecord → Option ℕ
@@ -111,16 +111,16 @@ IsForeign accepts c state file at =
 
 -- The store holds what the files stand for, or the first cause of a refusal is told: the ledger's file, a
 -- stored block, the log's file.
-abbrev pub OpensTo : Accepts → Config → State → Result Store OpenFault → Type 0
-OpensTo accepts c state (Ok store) =
+abbrev pub StoreOpensTo : Accepts → Config → State → Result Store OpenFault → Type 0
+StoreOpensTo accepts c state (Ok store) =
     (stands_for accepts c (state 2).reads ≡ Chain (held_of store).blocks)
     × (opens_as (state 0).reads ≡ Ok (held_of store).records)
-OpensTo accepts c state (Err (open_of.Foreign file at)) = IsForeign accepts c state file at
-OpensTo accepts c state (Err (open_of.Stored number why)) =
+StoreOpensTo accepts c state (Err (open_of.Foreign file at)) = IsForeign accepts c state file at
+StoreOpensTo accepts c state (Err (open_of.Stored number why)) =
     stands_for accepts c (state 2).reads ≡ Bad number why
-OpensTo accepts c state (Err (open_of.Limit n)) = ⊥
-OpensTo accepts c state (Err open_of.NoMemory) = Unit {0}
-OpensTo accepts c state (Err open_of.Disk) = Unit {0}
+StoreOpensTo accepts c state (Err (open_of.Limit n)) = ⊥
+StoreOpensTo accepts c state (Err open_of.NoMemory) = Unit {0}
+StoreOpensTo accepts c state (Err open_of.Disk) = Unit {0}
 
 -- why a store isn't opened; a disk that doesn't tell may hold a file that gets too long by what an opening
 -- adds

@@ -21,7 +21,7 @@ pub struct Lodged {
 impl Lodged {
     ghost use Rattle.std.specs.Prelude.{MatchResult};
     ghost use Rattle.bft_node.specs.Lodgings.{IsKeptIn, IsOpenedOn, IsStepOf, accepts_of};
-    ghost use Rattle.bft_node.specs.Stores.{OpensTo};
+    ghost use Rattle.bft_node.specs.Stores.{StoreOpensTo};
     ghost use Rattle.std.specs.Prelude.{Err};
 
     /// Opens a node on what this disk holds.
@@ -34,7 +34,7 @@ impl Lodged {
         requires { IsGenesisConfig setup.now.genesis }
         ensures opened { MatchResult result (IsOpenedOn setup.now (accepts_of keys.old) disk)
             (λ fault.
-            OpensTo (accepts_of keys.old) setup.now.genesis (now (states disk.history)) (Err fault)) }
+            StoreOpensTo (accepts_of keys.old) setup.now.genesis (now (states disk.history)) (Err fault)) }
         ensures keys { keys.new ≡ keys.old }
     {
         let mut disk = disk;

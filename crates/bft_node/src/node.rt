@@ -21,7 +21,7 @@ ghost use Rattle.ord_types.specs.Genesis.{IsGenesisConfig};
 ghost use Rattle.ord_types.specs.Grammar.{IsNumber};
 ghost use Rattle.ord_types.specs.declared.values.Block.{Block as SomeBlock};
 ghost use Rattle.gate_log.specs.Disk.{now};
-ghost use Rattle.gate_log.specs.Runs.{Went};
+ghost use Rattle.gate_log.specs.Runs.{Throughout};
 ghost use Rattle.bft_wal.specs.Fold.{durable_of};
 ghost use Rattle.block_ledger.specs.Chains.{IsChain};
 ghost use Rattle.view_model.specs.Acts.{may_propose};
@@ -189,7 +189,7 @@ impl Node {
 
         // A crash at any moment of the call opens to what a crash before it could open to.
         ensures any_moment { IsTrue (D.tells disk.old)
-            → Went (StaysOpen (K.accepts keys.old) setup.now.genesis (now (D.moments disk.old)))
+            → Throughout (StaysOpen (K.accepts keys.old) setup.now.genesis (now (D.moments disk.old)))
             (D.moments disk.old) (D.moments disk.new) }
         ensures keys { keys.new ≡ keys.old }
         ensures tells { D.tells disk.new ≡ D.tells disk.old }

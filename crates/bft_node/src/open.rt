@@ -1,10 +1,10 @@
 ghost use Rattle.std.specs.Prelude.{◌≡◌, ◌≤◌, IsTrue, IfOk};
 ghost use Rattle.ord_types.specs.declared.values.Config.{Config as FirstConfig};
 ghost use Rattle.gate_log.specs.Disk.{now};
-ghost use Rattle.gate_log.specs.Runs.{Went};
-ghost use Rattle.block_ledger.specs.Chains.{IsChain, IsGenesis, IsSomeGenesis};
+ghost use Rattle.gate_log.specs.Runs.{Throughout};
+ghost use Rattle.block_ledger.specs.Chains.{IsChain, IsGenesisBlock, IsSomeGenesis};
 ghost use Rattle.bft_node.specs.Openings.{ledger_fault, log_fault};
-ghost use Rattle.bft_node.specs.Stores.{IsKept, OpenAnswers, OpensTo, StaysOpen, config_of, held_of};
+ghost use Rattle.bft_node.specs.Stores.{IsKept, OpenAnswers, StoreOpensTo, StaysOpen, config_of, held_of};
 
 use crate::{OpenFault, Store};
 use bft_wal::Wal;
@@ -61,17 +61,17 @@ impl Store {
 
         ensures kept { IsTrue (D.tells disk.old)
             → IfOk result (λ store. IsKept store (now (D.moments disk.new))) }
-        ensures config { IfOk result (λ store. IsGenesis (config_of store) genesis.now) }
+        ensures config { IfOk result (λ store. IsGenesisBlock (config_of store) genesis.now) }
         ensures chain { IfOk result (λ store.
             IsChain (V.accepts verifier.now) (config_of store) (held_of store).blocks) }
 
         // Of the ledger's faults the first is told, and the log's only where the ledger has none.
-        ensures value { (c : FirstConfig) → IsGenesis c genesis.now → IsTrue (D.tells disk.old)
-            → OpensTo (V.accepts verifier.now) c (now (D.moments disk.old)) result }
+        ensures value { (c : FirstConfig) → IsGenesisBlock c genesis.now → IsTrue (D.tells disk.old)
+            → StoreOpensTo (V.accepts verifier.now) c (now (D.moments disk.old)) result }
 
         // A crash at any moment of the call opens to what a crash before it could open to.
-        ensures any_moment { (c : FirstConfig) → IsGenesis c genesis.now → IsTrue (D.tells disk.old)
-            → Went (StaysOpen (V.accepts verifier.now) c (now (D.moments disk.old))) (D.moments disk.old)
+        ensures any_moment { (c : FirstConfig) → IsGenesisBlock c genesis.now → IsTrue (D.tells disk.old)
+            → Throughout (StaysOpen (V.accepts verifier.now) c (now (D.moments disk.old))) (D.moments disk.old)
             (D.moments disk.new) }
         ensures tells { D.tells disk.new ≡ D.tells disk.old }
         ensures later { D.faults disk.old ≤ D.faults disk.new }

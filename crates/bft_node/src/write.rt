@@ -3,7 +3,7 @@ ghost use Rattle.std.specs.Prelude.{◌≡◌, ℕ, ◌≤◌, [], ◌∷◌, �
 ghost use Rattle.ord_types.specs.Grammar.{HasBlockSpelling, IsDigest, IsNumber};
 ghost use Rattle.ord_types.specs.declared.values.Proof.TheVariants.{Bft};
 ghost use Rattle.gate_log.specs.Disk.{now};
-ghost use Rattle.gate_log.specs.Runs.{Went};
+ghost use Rattle.gate_log.specs.Runs.{Throughout};
 ghost use Rattle.signer_edge.specs.Accepts.{Accepts as SomeAccepts};
 ghost use Rattle.signer_edge.specs.Signing.{KeepsAccepted};
 ghost use Rattle.bft_wal.specs.Records.{HasRecordSpelling};
@@ -81,7 +81,7 @@ impl Store {
         ensures any_moment { (deed : SomeDeed) (accepts : SomeAccepts) → IsStoredAs deed entry.now
             → IsTrue (D.tells disk.old) → IsChain accepts (config_of self.old) (held_of self.old).blocks
             → WritesWithin self.old deed accepts (D.moments disk.old) (D.moments disk.new) }
-        ensures others { IsTrue (D.tells disk.old) → Went (OthersStay (now (D.moments disk.old)))
+        ensures others { IsTrue (D.tells disk.old) → Throughout (OthersStay (now (D.moments disk.old)))
             (D.moments disk.old) (D.moments disk.new) }
         ensures refused { OnRefusal result ((self.new ≡ self.old) × (disk.new ≡ disk.old)) }
         ensures tells { D.tells disk.new ≡ D.tells disk.old }
@@ -122,7 +122,7 @@ impl Store {
             → IsChain accepts (config_of self.old) (held_of self.old).blocks
             → WritesWithin self.old (Accepting id config view number block) accepts
             (D.moments disk.old) (D.moments disk.new) }
-        ensures others { IsTrue (D.tells disk.old) → Went (OthersStay (now (D.moments disk.old)))
+        ensures others { IsTrue (D.tells disk.old) → Throughout (OthersStay (now (D.moments disk.old)))
             (D.moments disk.old) (D.moments disk.new) }
 
         // Want of memory and a length that is too great leave store and disk as they were.
@@ -162,7 +162,7 @@ impl Store {
             → IsChain accepts (config_of self.old) (held_of self.old).blocks
             → WritesWithin self.old (Preparing id config view number digest) accepts
             (D.moments disk.old) (D.moments disk.new) }
-        ensures others { IsTrue (D.tells disk.old) → Went (OthersStay (now (D.moments disk.old)))
+        ensures others { IsTrue (D.tells disk.old) → Throughout (OthersStay (now (D.moments disk.old)))
             (D.moments disk.old) (D.moments disk.new) }
         ensures refused { OnRefusal result ((self.new ≡ self.old) × (disk.new ≡ disk.old)) }
         ensures tells { D.tells disk.new ≡ D.tells disk.old }
@@ -210,7 +210,7 @@ impl Store {
             → IsChain (V.accepts verifier.now) (config_of self.old) (held_of self.old).blocks
             → WritesWithin self.old (Delivering id block (Bft cert)) accepts
             (D.moments disk.old) (D.moments disk.new) }
-        ensures others { IsTrue (D.tells disk.old) → Went (OthersStay (now (D.moments disk.old)))
+        ensures others { IsTrue (D.tells disk.old) → Throughout (OthersStay (now (D.moments disk.old)))
             (D.moments disk.old) (D.moments disk.new) }
         ensures refused { OnRefusal result ((self.new ≡ self.old) × (disk.new ≡ disk.old)) }
         ensures tells { D.tells disk.new ≡ D.tells disk.old }

@@ -7,13 +7,13 @@ use Rattle.gate_log.specs.Format.{gate_after, opened_as, reading}
 use Rattle.gate_log.specs.Front.{IsReadOrNew, entries_before}
 use Rattle.gate_log.specs.Runs.{Leaves}
 use Rattle.gate_log.specs.Settled.{IsWithOrWithout as IsLogWithOrWithout}
-use Rattle.gate_log.specs.Opening.{OpenAnswers as LogOpenAnswers, OpensTo as LogOpensTo}
+use Rattle.gate_log.specs.Opening.{OpenAnswers as LogOpenAnswers, LogOpensTo}
 use Rattle.gate_log.specs.declared.fault.LogFault.{LogFault}
 use Rattle.gate_log.specs.declared.fault.LogFault.TheVariants.{TooLong, Foreign as ForeignFile, NoMemory, Failed}
 use Rattle.gate_log.specs.declared.reading.Reading.{Reading}
 use Rattle.gate_log.specs.declared.reading.Reading.TheVariants.{Absent, Foreign, Log}
 use Rattle.gate_log.proofs.Going.{leaves_to}
-use Rattle.bft_wal.specs.Opening.{IsWithOrWithout, OpenAnswers, OpensAsBefore, OpensTo, first_wrong, here_or, opens_as, opens_by, records_in, records_or}
+use Rattle.bft_wal.specs.Opening.{IsWithOrWithout, OpenAnswers, OpensAsBefore, RecordsOpenTo, first_wrong, here_or, opens_as, opens_by, records_in, records_or}
 use Rattle.bft_wal.specs.Reading.{record_in}
 use Rattle.bft_wal.specs.Records.{WalRecord}
 
@@ -141,7 +141,7 @@ pub synced_reads : (old new : List State) → Synced 0 old new → (now new 0).r
 synced_reads old new sync = ap (λ (states : List State). (now states 0).reads) sync.is ∙ ap (λ (f : File). f.reads) sync.there
 
 -- a fault that isn't of the file
-pub other_value : (fault : LogFault) (read : Reading) (opens : Result (List WalRecord) ℕ) → ((at : ℕ) → fault ≢ ForeignFile at) → LogOpensTo read (Err fault) → OpensTo opens (Err fault)
+pub other_value : (fault : LogFault) (read : Reading) (opens : Result (List WalRecord) ℕ) → ((at : ℕ) → fault ≢ ForeignFile at) → LogOpensTo read (Err fault) → RecordsOpenTo opens (Err fault)
 other_value (TooLong n) read opens other is = is
 other_value (ForeignFile at) read opens other is = absurd (other at refl)
 other_value NoMemory read opens other is = tt

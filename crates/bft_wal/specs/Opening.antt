@@ -63,12 +63,12 @@ abbrev pub IsWithOrWithout : List WalRecord → WalRecord → List ℕ → Type 
 IsWithOrWithout rs r c = (opens_as c ≡ Ok rs) ⊎ (opens_as c ≡ Ok (rs ++ r ∷ []))
 
 -- The log has the records that the file opens to; a foreign file is refused at its first wrong place, and no other file is.
-abbrev pub OpensTo : Result (List WalRecord) ℕ → Result Wal LogFault → Type 0
-OpensTo opens (Ok wal) = opens ≡ Ok (records wal)
-OpensTo opens (Err (TooLong n)) = ⊥
-OpensTo opens (Err (ForeignFile at)) = opens ≡ Err at
-OpensTo opens (Err NoMemory) = Unit {0}
-OpensTo opens (Err Failed) = Unit {0}
+abbrev pub RecordsOpenTo : Result (List WalRecord) ℕ → Result Wal LogFault → Type 0
+RecordsOpenTo opens (Ok wal) = opens ≡ Ok (records wal)
+RecordsOpenTo opens (Err (TooLong n)) = ⊥
+RecordsOpenTo opens (Err (ForeignFile at)) = opens ≡ Err at
+RecordsOpenTo opens (Err NoMemory) = Unit {0}
+RecordsOpenTo opens (Err Failed) = Unit {0}
 
 -- why a log isn't opened
 abbrev pub OpenAnswers : ℕ → ℕ → Result Wal LogFault → Type 0

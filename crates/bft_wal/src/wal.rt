@@ -5,7 +5,7 @@ ghost use Rattle.gate_log.specs.Disk.{now, Synced};
 ghost use Rattle.gate_log.specs.Runs.{Leaves};
 ghost use Rattle.gate_log.specs.Settled.{AppendAnswers, GivesUp, OnRefusal, too_long as too_long_of};
 ghost use Rattle.bft_wal.specs.Fold.{counted, durable_of, tally_of};
-ghost use Rattle.bft_wal.specs.Opening.{IsSettled, IsWithOrWithout, OpenAnswers, OpensAsBefore, OpensTo, opens_as, records};
+ghost use Rattle.bft_wal.specs.Opening.{IsSettled, IsWithOrWithout, OpenAnswers, OpensAsBefore, RecordsOpenTo, opens_as, records};
 ghost use Rattle.bft_wal.specs.Reading.{record_in};
 ghost use Rattle.bft_wal.specs.Records.{HasRecordSpelling, record_text};
 
@@ -30,7 +30,7 @@ impl Wal {
     /// record.
     pub fn open<D: Disk>(alloc: Global, disk: &mut D) -> Result<Wal, LogFault>
         ensures settled { IsTrue (D.tells disk.old) → IfOk result (λ wal. IsSettled wal (now (D.moments disk.new))) }
-        ensures value { IsTrue (D.tells disk.old) → OpensTo (opens_as (now (D.moments disk.old) 0).reads) result }
+        ensures value { IsTrue (D.tells disk.old) → RecordsOpenTo (opens_as (now (D.moments disk.old) 0).reads) result }
 
         // A crash at any moment of the call opens to what a crash before it could open to. No other file changes.
         ensures any_moment { IsTrue (D.tells disk.old) → Leaves 0

@@ -10,16 +10,16 @@ use Rattle.ord_types.specs.declared.values.Block.{Block}
 use Rattle.ord_types.specs.declared.values.Config.{Config}
 use Rattle.ord_types.specs.declared.values.Request.{Request}
 use Rattle.ord_types.proofs.Sizes.{genesis_block_spelling}
-use Rattle.block_ledger.specs.Chains.{IsGenesis}
+use Rattle.block_ledger.specs.Chains.{IsGenesisBlock}
 
 pub requests_are : (c : Config) → (genesis_block c).requests ≡ genesis_request c ∷ []
 unfolding genesis_block
 requests_are c = refl
 
-pub one_request : (c : Config) (b : Block) → IsGenesis c b → length b.requests ≡ 1
+pub one_request : (c : Config) (b : Block) → IsGenesisBlock c b → length b.requests ≡ 1
 one_request c b is = ap (λ (x : Block). length x.requests) is.block ∙ ap length (requests_are c)
 
-pub request_of : (c : Config) (b : Block) → IsGenesis c b → (requests : List Request) (r : Request) → requests ≡ b.requests → r ≡ get_or requests 0 r → r ≡ genesis_request c
+pub request_of : (c : Config) (b : Block) → IsGenesisBlock c b → (requests : List Request) (r : Request) → requests ≡ b.requests → r ≡ get_or requests 0 r → r ≡ genesis_request c
 request_of c b is requests r same here =
     let all : requests ≡ genesis_request c ∷ [] = same ∙ ap (λ (x : Block). x.requests) is.block ∙ requests_are c in
     here ∙ ap (λ (l : List Request). get_or l 0 r) all
@@ -40,10 +40,10 @@ same_value {X} x y n m h = ap (λ (r : Result (X × ℕ) ReadFault). value r) h
     value (Ok r) = r.0
     value (Err f) = x
 
-pub config_read : (c : Config) (b : Block) → IsGenesis c b → (payload : List ℕ) → payload ≡ (genesis_request c).payload → (found : Config) (n : ℕ)
+pub config_read : (c : Config) (b : Block) → IsGenesisBlock c b → (payload : List ℕ) → payload ≡ (genesis_request c).payload → (found : Config) (n : ℕ)
     → ReadsSpelling HasConfigSpelling config_text (Ok (found, n)) payload 0 → c ≡ found
 config_read c b is payload same found n only =
     same_value found c n (0 + length (config_text c)) (only c (sig_text genesis_sig) (config_spelling c is.config) (omega arith) same)
 
-pub genesis_spelling : (c : Config) (b : Block) → IsGenesis c b → HasBlockSpelling b
+pub genesis_spelling : (c : Config) (b : Block) → IsGenesisBlock c b → HasBlockSpelling b
 genesis_spelling c b is = subst HasBlockSpelling (sym is.block) (genesis_block_spelling c is.config)

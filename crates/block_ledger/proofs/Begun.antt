@@ -13,7 +13,7 @@ use Rattle.gate_log.specs.declared.reading.Reading.TheVariants.{Log}
 use Rattle.signer_edge.specs.Accepts.{Accepts}
 use Rattle.block_ledger.specs.declared.fault.LedgerFault.{LedgerFault}
 use Rattle.block_ledger.specs.Answers.{BeginAnswers, log_fault}
-use Rattle.block_ledger.specs.Chains.{Entry, IsGenesis, genesis_entry}
+use Rattle.block_ledger.specs.Chains.{Entry, IsGenesisBlock, genesis_entry}
 use Rattle.block_ledger.specs.Entries.{HasEntrySpelling, HaveSpelling, entry_text}
 use Rattle.block_ledger.specs.Reading.{Chain, stands_as, stands_for}
 use Rattle.block_ledger.proofs.Beginning.{genesis_spelling}
@@ -22,20 +22,20 @@ use Rattle.block_ledger.proofs.Keeping.{stands_spelled}
 use Rattle.block_ledger.proofs.Limits.{begins_short}
 use Rattle.block_ledger.proofs.Linking.{begins}
 
-pub begun_spelling : (c : Config) (b : Block) → IsGenesis c b → HasEntrySpelling (b, proof_of.Raft)
+pub begun_spelling : (c : Config) (b : Block) → IsGenesisBlock c b → HasEntrySpelling (b, proof_of.Raft)
 begun_spelling c b is = record { block = genesis_spelling c b is; proof = tt }
 
-pub begun_entry : (c : Config) (b : Block) → IsGenesis c b → (b, proof_of.Raft) ≡ genesis_entry c
+pub begun_entry : (c : Config) (b : Block) → IsGenesisBlock c b → (b, proof_of.Raft) ≡ genesis_entry c
 begun_entry c b is = ap (λ (x : Block). one x) is.block
   where
     one : Block → Entry
     one x = (x, proof_of.Raft)
 
-pub first_spelled : (c : Config) (b : Block) → IsGenesis c b → HaveSpelling (genesis_entry c ∷ [])
+pub first_spelled : (c : Config) (b : Block) → IsGenesisBlock c b → HaveSpelling (genesis_entry c ∷ [])
 first_spelled c b is = (subst HasEntrySpelling (begun_entry c b is) (begun_spelling c b is), tt)
 
 -- what a crash leaves on the way stands for the genesis block
-pub begun_stands : (accepts : Accepts) (c : Config) (b : Block) → IsGenesis c b → (generation : ℕ) (entries : List (List ℕ)) (text bytes : List ℕ) → entries ≡ [] → text ≡ entry_text (b, proof_of.Raft)
+pub begun_stands : (accepts : Accepts) (c : Config) (b : Block) → IsGenesisBlock c b → (generation : ℕ) (entries : List (List ℕ)) (text bytes : List ℕ) → entries ≡ [] → text ≡ entry_text (b, proof_of.Raft)
     → IsWithOrWithout generation entries text bytes → stands_for accepts c bytes ≡ Chain (genesis_entry c ∷ [])
 unfolding stands_for
 begun_stands accepts c b is generation entries text bytes none text_is (inl without) = ap (stands_as accepts c) (without ∙ ap (Log generation) none)
@@ -45,7 +45,7 @@ begun_stands accepts c b is generation entries text bytes none text_is (inr with
     stands_spelled accepts c bytes generation (entries ++ text ∷ []) (genesis_entry c ∷ []) with_it spells (first_spelled c b is) (begins accepts c)
 
 -- why an empty log isn't made a ledger
-pub begun_cause : (tells : Bool) (c : Config) (b : Block) → IsGenesis c b → (log : GateLog) (state : State) → (IsTrue tells → IsSettled log state) → log.entries ≡ [] → (text : List ℕ) → text ≡ entry_text (b, proof_of.Raft)
+pub begun_cause : (tells : Bool) (c : Config) (b : Block) → IsGenesisBlock c b → (log : GateLog) (state : State) → (IsTrue tells → IsSettled log state) → log.entries ≡ [] → (text : List ℕ) → text ≡ entry_text (b, proof_of.Raft)
     → (before now : ℕ) (fault : LogFault) (told : LedgerFault) → told ≡ log_fault fault → AppendAnswers (too_long log.gate (length text)) before now (Err fault) → BeginAnswers tells before now (Err told)
 begun_cause tells c b is log state settled none text text_is before now log_of.NoMemory told same answer = subst (λ t. BeginAnswers tells before now (Err t)) (sym same) tt
 begun_cause tells c b is log state settled none text text_is before now log_of.Failed told same answer = subst (λ t. BeginAnswers tells before now (Err t)) (sym same) answer.1

@@ -19,7 +19,7 @@ use Rattle.ord_types.specs.declared.values.Request.{Request}
 use Rattle.ord_types.specs.declared.values.Sig.{Sig}
 use Rattle.ord_types.proofs.Sizes.{length-config}
 use Rattle.chan_config.specs.Blocks.{are_lawful, is_lawful, is_linked, is_next_at, is_normal, is_ordinary, total_size}
-use Rattle.block_ledger.specs.Chains.{Entry, IsGenesis}
+use Rattle.block_ledger.specs.Chains.{Entry, IsGenesisBlock}
 use Rattle.block_ledger.specs.Entries.{HasEntrySpelling, entry_text}
 
 length-id_list : (ids : List ℕ) → length (flat_map (λ id. to_be_bytes w32 id) ids) ≡ 4 * length ids
@@ -98,7 +98,7 @@ length-genesis_request : (c : Config) → length (request_text (genesis_request 
 length-genesis_request c = omega (arith, length-append (config_text c) (sig_text genesis_sig), length-config c)
 
 -- those of block 0 are
-pub genesis_short : (c : Config) (b : Block) → IsGenesis c b → total_size b.requests ≤ 1048576
+pub genesis_short : (c : Config) (b : Block) → IsGenesisBlock c b → total_size b.requests ≤ 1048576
 genesis_short c b is =
     let same : total_size b.requests ≡ total_size (genesis_request c ∷ []) = ap (λ (x : Block). total_size x.requests) is.block ∙ ap total_size (genesis_requests c) in
     omega (arith, same, length-genesis_request c, is.config.members.count)

@@ -12,7 +12,7 @@ use Rattle.signer_edge.specs.Accepts.{Accepts}
 use Rattle.block_ledger.specs.declared.fault.StoredWhy.{StoredWhy}
 use Rattle.block_ledger.specs.declared.fault.StoredWhy.TheVariants.{Grammar}
 use Rattle.block_ledger.specs.Chains.{Entry, IsChain}
-use Rattle.block_ledger.specs.Entries.{entry_text, place_of, read_entry}
+use Rattle.block_ledger.specs.Entries.{entry_text, fault_place, read_entry}
 use Rattle.block_ledger.specs.Judging.{entry_fault}
 use Rattle.block_ledger.specs.Loading.{IsAdded}
 use Rattle.block_ledger.specs.Reading.{Stored, Bad, Chain, bad_or, read_behind, read_chain}
@@ -40,7 +40,7 @@ module _ (accepts : Accepts) (c : Config) where
   by_result : (before : List Entry) (bytes : List ℕ) (more : List (List ℕ)) (chain : List Entry) → IsBytes bytes → (r : Result Entry ReadFault) → read_entry bytes ≡ r
       → (elim r [
         | Ok x ↦ bad_or (length before) (entry_fault accepts c before x) (read_behind accepts c (before ++ x ∷ []) more)
-        | Err fault ↦ Bad (length before) (Grammar (place_of fault))
+        | Err fault ↦ Bad (length before) (Grammar (fault_place fault))
       ]) ≡ Chain chain → Goes before bytes more chain
   by_result before bytes more chain fits (Ok e) read h = sound_one before bytes more chain e fits read (entry_fault accepts c before e) refl h
   by_result before bytes more chain fits (Err fault) read h = absurd cc

@@ -13,7 +13,7 @@ use Rattle.ord_types.proofs.Laws.{one_spelling}
 use Rattle.ord_types.proofs.ValueLaws.{config_law}
 use Rattle.gate_log.specs.Disk.{File, State, MayLeave, Synced, now, synced_file}
 use Rattle.gate_log.specs.Format.{opened_as, reading}
-use Rattle.gate_log.specs.Opening.{OpensAsBefore, OpensTo as LogOpensTo}
+use Rattle.gate_log.specs.Opening.{OpensAsBefore, LogOpensTo}
 use Rattle.gate_log.specs.Settled.{IsSettled, OnRefusal as OnLogRefusal}
 use Rattle.gate_log.specs.declared.fault.LogFault.{LogFault}
 use Rattle.gate_log.specs.declared.fault.LogFault.TheVariants as fault_in
@@ -23,8 +23,8 @@ use Rattle.gate_log.specs.declared.reading.Reading.TheVariants as log_of
 use Rattle.signer_edge.specs.Accepts.{Accepts}
 use Rattle.block_ledger.specs.declared.fault.LedgerFault.{LedgerFault}
 use Rattle.block_ledger.specs.declared.fault.LedgerFault.TheVariants as fault_of
-use Rattle.block_ledger.specs.Answers.{BeginAnswers, OnRefusal, OpensTo, log_fault}
-use Rattle.block_ledger.specs.Chains.{Entry, IsChain, IsGenesis, genesis_entry}
+use Rattle.block_ledger.specs.Answers.{BeginAnswers, OnRefusal, LedgerOpensTo, log_fault}
+use Rattle.block_ledger.specs.Chains.{Entry, IsChain, IsGenesisBlock, genesis_entry}
 use Rattle.block_ledger.specs.Ledgers.{StandsAsBefore}
 use Rattle.block_ledger.specs.Loading.{TellsBad}
 use Rattle.block_ledger.specs.Reading.{Stored, Chain, read_chain, stands_as, stands_for}
@@ -44,7 +44,7 @@ same_payload c d h = ap (λ (l : List Request). payload_in l) h
     payload_in [] = []
     payload_in (r ∷ rs) = r.payload
 
-pub one_config : (c d : Config) (b : Block) → IsGenesis c b → IsGenesis d b → c ≡ d
+pub one_config : (c d : Config) (b : Block) → IsGenesisBlock c b → IsGenesisBlock d b → c ≡ d
 one_config c d b one two =
     let requests = sym (requests_are c) ∙ ap (λ (x : Block). x.requests) (sym one.block ∙ two.block) ∙ requests_are d in
     (one_spelling config_law c d (sig_text genesis_sig) (sig_text genesis_sig) (config_spelling c one.config) (config_spelling d two.config) (same_payload c d requests)).0
@@ -69,7 +69,7 @@ module _ (accepts : Accepts) (c : Config) where
   }
 
   -- a log that isn't opened
-  pub log_value : (fault : LogFault) (reads : List ℕ) → LogOpensTo (reading reads) (Err fault) → OpensTo (stands_for accepts c reads) (Err (log_fault fault))
+  pub log_value : (fault : LogFault) (reads : List ℕ) → LogOpensTo (reading reads) (Err fault) → LedgerOpensTo (stands_for accepts c reads) (Err (log_fault fault))
   unfolding stands_for
   log_value (fault_in.TooLong n) reads h = absurd h
   log_value (fault_in.Foreign at) reads h = ap (stands_as accepts c) h
@@ -97,7 +97,7 @@ module _ (accepts : Accepts) (c : Config) where
   log_refused T fault_in.Failed old new h = tt
 
 -- stored blocks that aren't opened
-pub bad_value : (stored : Stored) (fault : LedgerFault) → TellsBad stored fault → OpensTo stored (Err fault)
+pub bad_value : (stored : Stored) (fault : LedgerFault) → TellsBad stored fault → LedgerOpensTo stored (Err fault)
 bad_value stored fault_of.NoMemory h = tt
 bad_value stored (fault_of.Stored n why) h = h
 bad_value stored (fault_of.WrongNumber n) h = h
@@ -114,7 +114,7 @@ not_told true t h = false≢true (sym h)
 not_told false t h = absurd (false≢true t)
 
 -- an empty log that isn't made a ledger
-pub begin_value : (tells : Bool) (before now : ℕ) (stored : Stored) (fault : LedgerFault) → IsTrue tells → BeginAnswers tells before now (Err fault) → OpensTo stored (Err fault)
+pub begin_value : (tells : Bool) (before now : ℕ) (stored : Stored) (fault : LedgerFault) → IsTrue tells → BeginAnswers tells before now (Err fault) → LedgerOpensTo stored (Err fault)
 begin_value tells before now stored fault_of.NoMemory t h = tt
 begin_value tells before now stored fault_of.Failed t h = tt
 begin_value tells before now stored (fault_of.WrongNumber n) t h = h

@@ -9,7 +9,7 @@ use Rattle.ord_types.specs.declared.values.Meta.{Meta}
 use Rattle.ord_types.specs.declared.values.Place.{Place}
 use Rattle.ord_types.specs.declared.values.Proof.TheVariants as proof_of
 use Rattle.chan_config.proofs.PlaceLaws.{next_config}
-use Rattle.block_ledger.specs.Chains.{Entry, IsGenesis, genesis_entry}
+use Rattle.block_ledger.specs.Chains.{Entry, IsGenesisBlock, genesis_entry}
 use Rattle.block_ledger.specs.Orders.{IsBounded, IsInOrder}
 use Rattle.block_ledger.specs.Places.{first_place, next_place, place_after}
 use Rattle.block_ledger.proofs.Placing.{begins_at_first, moves_by_one}
@@ -22,7 +22,7 @@ bounded c is = record {
 }
 
 -- block 0 alone
-pub first_in_order : (c : Config) (b : Block) → IsGenesis c b → (chain : List Entry) (place : Place) → chain ≡ genesis_entry c ∷ [] → place ≡ first_place c → IsInOrder chain place
+pub first_in_order : (c : Config) (b : Block) → IsGenesisBlock c b → (chain : List Entry) (place : Place) → chain ≡ genesis_entry c ∷ [] → place ≡ first_place c → IsInOrder chain place
 first_in_order c b is chain place chain_is place_is =
     let config : place.config ≡ c = ap (λ (p : Place). p.config) place_is in
     record {
@@ -55,14 +55,14 @@ genesis_meta_is : (c : Config) → (genesis_block c).meta ≡ genesis_meta
 unfolding genesis_block
 genesis_meta_is c = refl
 
-pub first_place_is : (c : Config) (b : Block) → IsGenesis c b → (last : List ℕ) (meta : Meta) → last ≡ block_hash b → meta ≡ b.meta
+pub first_place_is : (c : Config) (b : Block) → IsGenesisBlock c b → (last : List ℕ) (meta : Meta) → last ≡ block_hash b → meta ≡ b.meta
     → record { config = c; start = 1; height = 1; last = last; last_meta = meta; last_cert = None } ≡ first_place c
 first_place_is c b is last meta last_is meta_is =
     let hash : last ≡ block_hash (genesis_block c) = last_is ∙ ap block_hash is.block in
     let same : meta ≡ genesis_meta = meta_is ∙ ap (λ (x : Block). x.meta) is.block ∙ genesis_meta_is c in
     rw (hash, same) refl
 
-pub first_chain_is : (c : Config) (b : Block) → IsGenesis c b → (empty : List Entry) → empty ≡ [] → empty ++ (b, proof_of.Raft) ∷ [] ≡ genesis_entry c ∷ []
+pub first_chain_is : (c : Config) (b : Block) → IsGenesisBlock c b → (empty : List Entry) → empty ≡ [] → empty ++ (b, proof_of.Raft) ∷ [] ≡ genesis_entry c ∷ []
 first_chain_is c b is empty none = ap (λ (l : List Entry). l ++ (b, proof_of.Raft) ∷ []) none ∙ ap (λ (x : Block). one x) is.block
   where
     one : Block → List Entry

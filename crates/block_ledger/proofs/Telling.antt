@@ -21,7 +21,7 @@ use Rattle.signer_edge.specs.Accepts.{Accepts}
 use Rattle.block_ledger.specs.declared.fault.StoredWhy.{StoredWhy}
 use Rattle.block_ledger.specs.declared.fault.StoredWhy.TheVariants as why_of
 use Rattle.block_ledger.specs.Chains.{Entry, IsChain, genesis_entry}
-use Rattle.block_ledger.specs.Entries.{HasEntrySpelling, HaveSpelling, entry_text, place_of, read_entry}
+use Rattle.block_ledger.specs.Entries.{HasEntrySpelling, HaveSpelling, entry_text, fault_place, read_entry}
 use Rattle.block_ledger.specs.Judging.{entry_fault, fault_or, first_fault, genesis_fault, genesis_proof_fault, next_refusal, stored_fault, stored_why}
 use Rattle.block_ledger.specs.Places.{place_after}
 use Rattle.block_ledger.specs.Reading.{Bad, Chain, bad_or, read_behind, read_chain}
@@ -100,14 +100,14 @@ module _ (accepts : Accepts) (c : Config) where
   read_one before bytes e more read none =
       ap (λ (r : Result Entry ReadFault). elim r [
         | Ok x ↦ bad_or (length before) (entry_fault accepts c before x) (read_behind accepts c (before ++ x ∷ []) more)
-        | Err fault ↦ Bad (length before) (why_of.Grammar (place_of fault))
+        | Err fault ↦ Bad (length before) (why_of.Grammar (fault_place fault))
       ]) read
       ∙ ap (λ (f : Option StoredWhy). bad_or (length before) f (read_behind accepts c (before ++ e ∷ []) more)) none
 
   bad_one : (before : List Entry) (r : Result Entry ReadFault) (why : StoredWhy) (more : List (List ℕ)) → stored_fault accepts c before r ≡ Some why
       → (elim r [
         | Ok x ↦ bad_or (length before) (entry_fault accepts c before x) (read_behind accepts c (before ++ x ∷ []) more)
-        | Err fault ↦ Bad (length before) (why_of.Grammar (place_of fault))
+        | Err fault ↦ Bad (length before) (why_of.Grammar (fault_place fault))
       ]) ≡ Bad (length before) why
   bad_one before (Ok e) why more h = ap (λ (f : Option StoredWhy). bad_or (length before) f (read_behind accepts c (before ++ e ∷ []) more)) h
   bad_one before (Err fault) why more h = ap (Bad (length before)) (same_Some _ _ h)

@@ -71,13 +71,13 @@ OnRefusal (Err told) P = P
 
 -- The ledger has the chain that the file stands for. A foreign file is refused at its first wrong byte, and a stored block that breaks the
 -- rules where it is the first one; no other file is.
-abbrev pub OpensTo : Stored → Result Ledger LedgerFault → Type 0
-OpensTo stored (Ok ledger) = stored ≡ Chain (blocks_of ledger)
-OpensTo stored (Err (fault_of.Foreign at)) = stored ≡ Foreign at
-OpensTo stored (Err (fault_of.Stored number why)) = stored ≡ Bad number why
-OpensTo stored (Err fault_of.NoMemory) = Unit {0}
-OpensTo stored (Err fault_of.Failed) = Unit {0}
-OpensTo stored (Err told) = ⊥
+abbrev pub LedgerOpensTo : Stored → Result Ledger LedgerFault → Type 0
+LedgerOpensTo stored (Ok ledger) = stored ≡ Chain (blocks_of ledger)
+LedgerOpensTo stored (Err (fault_of.Foreign at)) = stored ≡ Foreign at
+LedgerOpensTo stored (Err (fault_of.Stored number why)) = stored ≡ Bad number why
+LedgerOpensTo stored (Err fault_of.NoMemory) = Unit {0}
+LedgerOpensTo stored (Err fault_of.Failed) = Unit {0}
+LedgerOpensTo stored (Err told) = ⊥
 
 -- why an empty log isn't made a ledger
 abbrev pub BeginAnswers : Bool → ℕ → ℕ → Result Ledger LedgerFault → Type 0

@@ -23,12 +23,12 @@ abbrev pub genesis_entry : Config → Entry
 genesis_entry c = (genesis_block c, proof_of.Raft)
 
 -- a block with which the chain of this configuration can begin
-pub record IsGenesis (c : Config) (b : Block) : Type 0 where
+pub record IsGenesisBlock (c : Config) (b : Block) : Type 0 where
   pub config : IsGenesisConfig c
   pub block : b ≡ genesis_block c
 
 abbrev pub IsSomeGenesis : Block → Type 0
-IsSomeGenesis b = (c : Config) × IsGenesis c b
+IsSomeGenesis b = (c : Config) × IsGenesisBlock c b
 
 -- What proves a block under a configuration (SmartBFT, Raft): under Raft nothing more than that it is there, under BFT a certificate
 -- under this configuration, of whose signatures each is accepted.

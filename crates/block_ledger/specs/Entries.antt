@@ -31,8 +31,8 @@ abbrev pub read_entry : List ℕ → Result Entry ReadFault
 read_entry bytes = whole (length bytes) (entry_at bytes)
 
 -- the place of a fault: the end of the bytes, a field's first byte, or what trails
-abbrev pub place_of : ReadFault → ℕ
-place_of (Short at) = at
-place_of (BadField at) = at
-place_of (Trailing at) = at
-place_of NoMemory = 0
+abbrev pub fault_place : ReadFault → ℕ
+fault_place (Short at) = at
+fault_place (BadField at) = at
+fault_place (Trailing at) = at
+fault_place NoMemory = 0

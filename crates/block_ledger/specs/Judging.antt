@@ -19,7 +19,7 @@ use Rattle.block_ledger.specs.declared.fault.NextRefusal.TheVariants as next_of
 use Rattle.block_ledger.specs.declared.fault.StoredWhy.{StoredWhy}
 use Rattle.block_ledger.specs.declared.fault.StoredWhy.TheVariants as why_of
 use Rattle.block_ledger.specs.Chains.{Entry}
-use Rattle.block_ledger.specs.Entries.{place_of}
+use Rattle.block_ledger.specs.Entries.{fault_place}
 use Rattle.block_ledger.specs.Places.{place_after}
 
 -- why a proof proves nothing under a configuration: it is of the other kind, or what is wrong with its certificate
@@ -58,7 +58,7 @@ entry_fault accepts c (first ∷ more) e = option_map stored_why (next_refusal a
 -- what was read, where it breaks no rule behind these
 abbrev pub stored_fault : Accepts → Config → List Entry → Result Entry ReadFault → Option StoredWhy
 stored_fault accepts c before (Ok e) = entry_fault accepts c before e
-stored_fault accepts c before (Err fault) = Some (why_of.Grammar (place_of fault))
+stored_fault accepts c before (Err fault) = Some (why_of.Grammar (fault_place fault))
 
 -- a fault at this number, or else a later one
 abbrev pub fault_or : ℕ → Option StoredWhy → Option (ℕ × StoredWhy) → Option (ℕ × StoredWhy)

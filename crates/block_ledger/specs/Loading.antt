@@ -10,7 +10,7 @@ use Rattle.ord_types.specs.declared.fault.ReadFault.{ReadFault}
 use Rattle.ord_types.specs.declared.fault.ReadFault.TheVariants as read_of
 use Rattle.block_ledger.specs.declared.blocks.Blocks.{Blocks}
 use Rattle.block_ledger.specs.Chains.{Entry, IsChain}
-use Rattle.block_ledger.specs.Entries.{HasEntrySpelling, HaveSpelling, entry_text, place_of, read_entry}
+use Rattle.block_ledger.specs.Entries.{HasEntrySpelling, HaveSpelling, entry_text, fault_place, read_entry}
 use Rattle.block_ledger.specs.Judging.{entry_fault, stored_fault}
 use Rattle.block_ledger.specs.Reading.{Stored, Bad, Chain}
 
@@ -39,7 +39,7 @@ pub record IsReadAs (bytes : List ℕ) (entry : Entry) : Type 0 where
 -- what is wrong with an entry that isn't a block with its proof
 abbrev pub grammar_why : Result Entry ReadFault → Option StoredWhy
 grammar_why (Ok entry) = None
-grammar_why (Err fault) = Some (why_of.Grammar (place_of fault))
+grammar_why (Err fault) = Some (why_of.Grammar (fault_place fault))
 
 -- a stored block is told where it breaks a rule behind so many
 abbrev pub TellsFault : ℕ → Option StoredWhy → LedgerFault → Type 0

@@ -8,7 +8,7 @@ use Rattle.signer_edge.specs.Accepts.{Accepts}
 use Rattle.block_ledger.specs.declared.fault.StoredWhy.{StoredWhy}
 use Rattle.block_ledger.specs.declared.fault.StoredWhy.TheVariants.{Grammar}
 use Rattle.block_ledger.specs.Chains.{Entry, genesis_entry}
-use Rattle.block_ledger.specs.Entries.{place_of, read_entry}
+use Rattle.block_ledger.specs.Entries.{fault_place, read_entry}
 use Rattle.block_ledger.specs.Judging.{entry_fault}
 
 pub data Stored : Type 0 where
@@ -29,7 +29,7 @@ read_behind accepts c before [] = Chain before
 read_behind accepts c before (bytes ∷ more) =
     elim (read_entry bytes) [
       | Ok e ↦ bad_or (length before) (entry_fault accepts c before e) (read_behind accepts c (before ++ e ∷ []) more)
-      | Err fault ↦ Bad (length before) (Grammar (place_of fault))
+      | Err fault ↦ Bad (length before) (Grammar (fault_place fault))
     ]
 
 -- what the entries of a log stand for: where there are none, for what is made of it, the genesis block

@@ -1,6 +1,6 @@
 //! The blocks of a ledger in memory.
 ghost use Rattle.std.specs.Prelude.{◌≡◌, ℕ, ◌-◌, ◌<◌, ◌^◌, List, [], ◌∷◌, ◌++◌, length, take, IfOk, OnOk, OnErr};
-ghost use Rattle.block_ledger.specs.Chains.{Entry, IsGenesis, genesis_entry};
+ghost use Rattle.block_ledger.specs.Chains.{Entry, IsGenesisBlock, genesis_entry};
 ghost use Rattle.block_ledger.specs.Entries.{HasEntrySpelling};
 ghost use Rattle.block_ledger.specs.Orders.{IsInOrder};
 ghost use Rattle.block_ledger.specs.Places.{cert_in, next_place};
@@ -50,7 +50,7 @@ fn next_place(place: &Place, block: &Block, proof: &Proof) -> Result<Place, NoMe
 impl Blocks {
     /// The genesis block alone.
     pub fn first(alloc: Global, config: Config, genesis: Block) -> Result<Blocks, NoMemory>
-        requires { IsGenesis config genesis }
+        requires { IsGenesisBlock config genesis }
         ensures chain { IfOk result (λ blocks. blocks.chain ≡ genesis_entry config ∷ []) }
         ensures config { IfOk result (λ blocks. blocks.place.config ≡ config) }
     {

@@ -6,7 +6,7 @@ ghost use Rattle.ord_types.specs.Grammar.{HasBlockSpelling};
 ghost use Rattle.ord_types.specs.Members.{is_raft};
 ghost use Rattle.ord_types.specs.Spelling.{block_text};
 ghost use Rattle.block_ledger.specs.Judging.{genesis_fault, next_refusal, proof_refusal};
-ghost use Rattle.block_ledger.specs.Chains.{IsGenesis};
+ghost use Rattle.block_ledger.specs.Chains.{IsGenesisBlock};
 
 use crate::entry::block_bytes;
 use crate::fault::{NextRefusal, StoredWhy};
@@ -95,7 +95,7 @@ pub fn genesis_fault(
 ) -> Result<Option<StoredWhy>, NoMemory>
     requires genesis { HasBlockSpelling genesis.now }
     requires block { HasBlockSpelling block.now }
-    ensures { (c : Config) → IsGenesis c genesis.now → IfOk result (λ fault. fault ≡ genesis_fault c (block.now, proof.now)) }
+    ensures { (c : Config) → IsGenesisBlock c genesis.now → IfOk result (λ fault. fault ≡ genesis_fault c (block.now, proof.now)) }
 {
     if !is_same(alloc, block, genesis)? {
         return Ok(Some(StoredWhy::Other(block_hash(&block.header), block_hash(&genesis.header))));

@@ -3,8 +3,8 @@ ghost use Rattle.ord_types.specs.declared.values.Config.{Config as FirstConfig};
 ghost use Rattle.gate_log.specs.Disk.{now};
 ghost use Rattle.gate_log.specs.Runs.{Leaves};
 ghost use Rattle.gate_log.specs.Settled.{IsSettled};
-ghost use Rattle.block_ledger.specs.Answers.{BeginAnswers, OnRefusal, OpenAnswers, OpensTo};
-ghost use Rattle.block_ledger.specs.Chains.{IsChain, IsGenesis, IsSomeGenesis, genesis_entry};
+ghost use Rattle.block_ledger.specs.Answers.{BeginAnswers, OnRefusal, OpenAnswers, LedgerOpensTo};
+ghost use Rattle.block_ledger.specs.Chains.{IsChain, IsGenesisBlock, IsSomeGenesis, genesis_entry};
 ghost use Rattle.block_ledger.specs.Judging.{stored_why};
 ghost use Rattle.signer_edge.specs.Accepts.{Accepts};
 ghost use Rattle.block_ledger.specs.Ledgers.{IsKept, StandsAsBefore, blocks_of, first_config};
@@ -62,7 +62,7 @@ fn first_stored(
     config: Config,
     genesis: &Block,
 ) -> Result<Blocks, LedgerFault>
-    requires { IsGenesis config genesis.now }
+    requires { IsGenesisBlock config genesis.now }
     ensures { (accepts : Accepts) → BeginsStored accepts config bytes.now result }
 {
     let (block, proof) = stored_entry(alloc, 0, bytes)?;
@@ -103,7 +103,7 @@ fn read_blocks<V: Verifier>(
     genesis: &Block,
     verifier: &V,
 ) -> Result<Blocks, LedgerFault>
-    requires genesis { IsGenesis config genesis.now }
+    requires genesis { IsGenesisBlock config genesis.now }
     requires some { 1 ≤ length entries.now }
     ensures { LoadsAll (V.accepts verifier.now) config entries.now (read_chain (V.accepts verifier.now) config entries.now) result }
 {
@@ -123,7 +123,7 @@ fn read_blocks<V: Verifier>(
 // The configuration that the genesis block carries.
 fn config_in(alloc: Global, genesis: &Block) -> Result<Config, NoMemory>
     requires { IsSomeGenesis genesis.now }
-    ensures { IfOk result (λ config. IsGenesis config genesis.now) }
+    ensures { IfOk result (λ config. IsGenesisBlock config genesis.now) }
 {
     let payload = genesis.requests.as_slice()[0].payload.as_slice();
     match read_config(alloc, payload, 0) {
@@ -144,7 +144,7 @@ fn begin<D: Disk>(
     requires file { log.file ≡ 2 }
     requires settled { IsTrue (D.tells disk.old) → IsSettled log (now (D.moments disk.old)) }
     requires empty { log.entries ≡ [] }
-    requires genesis { IsGenesis config genesis.now }
+    requires genesis { IsGenesisBlock config genesis.now }
     ensures kept { IsTrue (D.tells disk.old) → IfOk result (λ ledger. IsKept ledger (now (D.moments disk.new))) }
     ensures value { IfOk result (λ ledger. (blocks_of ledger ≡ genesis_entry config ∷ []) × (first_config ledger ≡ config)) }
     ensures any_moment { (accepts : Accepts) → IsTrue (D.tells disk.old) → Leaves 2
@@ -174,18 +174,18 @@ impl Ledger {
         requires { IsSomeGenesis genesis.now }
 
         ensures kept { IsTrue (D.tells disk.old) → IfOk result (λ ledger. IsKept ledger (now (D.moments disk.new))) }
-        ensures config { IfOk result (λ ledger. IsGenesis (first_config ledger) genesis.now) }
+        ensures config { IfOk result (λ ledger. IsGenesisBlock (first_config ledger) genesis.now) }
         ensures chain { IfOk result (λ ledger. IsChain (V.accepts verifier.now) (first_config ledger) (blocks_of ledger)) }
-        ensures value { (c : FirstConfig) → IsGenesis c genesis.now → IsTrue (D.tells disk.old)
-            → OpensTo (stands_for (V.accepts verifier.now) c (now (D.moments disk.old) 2).reads) result }
+        ensures value { (c : FirstConfig) → IsGenesisBlock c genesis.now → IsTrue (D.tells disk.old)
+            → LedgerOpensTo (stands_for (V.accepts verifier.now) c (now (D.moments disk.old) 2).reads) result }
 
         // A crash at any moment of the call leaves what stands for what a crash before it could have stood for. No other file
         // changes.
-        ensures any_moment { (c : FirstConfig) → IsGenesis c genesis.now → IsTrue (D.tells disk.old) → Leaves 2
+        ensures any_moment { (c : FirstConfig) → IsGenesisBlock c genesis.now → IsTrue (D.tells disk.old) → Leaves 2
             (StandsAsBefore (V.accepts verifier.now) c (now (D.moments disk.old) 2)) (D.moments disk.old) (D.moments disk.new) }
 
         // After a refusal the file stands for what it stood for.
-        ensures refused { (c : FirstConfig) → IsGenesis c genesis.now → IsTrue (D.tells disk.old) → OnRefusal result
+        ensures refused { (c : FirstConfig) → IsGenesisBlock c genesis.now → IsTrue (D.tells disk.old) → OnRefusal result
             (stands_for (V.accepts verifier.now) c (now (D.moments disk.new) 2).reads ≡ stands_for (V.accepts verifier.now) c (now (D.moments disk.old) 2).reads) }
         ensures tells { D.tells disk.new ≡ D.tells disk.old }
         ensures later { D.faults disk.old ≤ D.faults disk.new }

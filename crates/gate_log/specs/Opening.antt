@@ -16,12 +16,12 @@ pub record OpensAsBefore (file : File) (c : List ℕ) : Type 0 where
   pub same : opened_as (reading c) ≡ opened_as (reading image)
 
 -- The log is what the file stands for; a foreign file is refused at its first wrong byte, and no other file is.
-abbrev pub OpensTo : Reading → Result GateLog LogFault → Type 0
-OpensTo read (Ok log) = opened_as read ≡ Log log.generation log.entries
-OpensTo read (Err (TooLong n)) = ⊥
-OpensTo read (Err (ForeignFile at)) = read ≡ Foreign at
-OpensTo read (Err NoMemory) = Unit {0}
-OpensTo read (Err Failed) = Unit {0}
+abbrev pub LogOpensTo : Reading → Result GateLog LogFault → Type 0
+LogOpensTo read (Ok log) = opened_as read ≡ Log log.generation log.entries
+LogOpensTo read (Err (TooLong n)) = ⊥
+LogOpensTo read (Err (ForeignFile at)) = read ≡ Foreign at
+LogOpensTo read (Err NoMemory) = Unit {0}
+LogOpensTo read (Err Failed) = Unit {0}
 
 -- why a log isn't opened
 abbrev pub OpenAnswers : ℕ → ℕ → Result GateLog LogFault → Type 0

@@ -5,7 +5,7 @@ ghost use Rattle.gate_log.specs.Runs.{Leaves};
 ghost use Rattle.gate_log.specs.Format.{reading, opened_as};
 ghost use Rattle.gate_log.specs.Front.{IsReadOrNew};
 ghost use Rattle.gate_log.specs.Settled.{IsSettled, OnRefusal};
-ghost use Rattle.gate_log.specs.Opening.{OpensAsBefore, OpensTo, OpenAnswers};
+ghost use Rattle.gate_log.specs.Opening.{OpensAsBefore, LogOpensTo, OpenAnswers};
 ghost use Rattle.gate_log.specs.Renew.{IsSynced, CanClose, IsClosed};
 ghost use Rattle.gate_log.specs.declared.reading.Reading.TheVariants.{Absent, Log};
 
@@ -26,7 +26,7 @@ impl GateLog {
 
         ensures settled { IsTrue (D.tells disk.old) → IfOk result (λ log. IsSettled log (now (D.moments disk.new))) }
         ensures file { IfOk result (λ log. log.file ≡ file) }
-        ensures value { IsTrue (D.tells disk.old) → OpensTo (reading (now (D.moments disk.old) file).reads) result }
+        ensures value { IsTrue (D.tells disk.old) → LogOpensTo (reading (now (D.moments disk.old) file).reads) result }
 
         // A crash at any moment of the call opens to what a crash before it could open to. No other file changes.
         ensures any_moment { IsTrue (D.tells disk.old) → Leaves file

@@ -11,7 +11,7 @@ use Rattle.safety_model.specs.Blocks.{Block, Config, are_lawful, change_in, conf
 use Rattle.safety_model.specs.Facts.{Proof, Fact, History, has, is_prepared}
 use Rattle.safety_model.specs.State.{Setup, block_or, config_of, delivered, height, last_delivered, tip}
 use Rattle.safety_model.specs.Rules.{Allowed, IsRun, bound_of, faulty, first_broken, is_bft_proof, tests}
-use Rattle.safety_model.specs.Safety.{AllFit, AreLawful, AreLinked, IsGenesis, IsPrefixOf, IsProvedAt, NoCollision, RunsAgree}
+use Rattle.safety_model.specs.Safety.{AllFit, AreLawful, AreLinked, BeginsWithGenesis, IsPrefixOf, IsProvedAt, NoCollision, RunsAgree}
 use Rattle.safety_model.proofs.RuleFacts.{delivered_rules}
 use Rattle.safety_model.proofs.OneView.{IsCertified, one_digest, prepared_accepted, prepared_stands}
 use Rattle.safety_model.proofs.Quorums.{two_quorums}
@@ -170,7 +170,7 @@ proved_at su h run i (suc k) pos lt =
     }
 
 -- block 0 has number 0
-pub number_of_genesis : (su : Setup) → IsGenesis su → su.genesis.header.number ≡ 0
+pub number_of_genesis : (su : Setup) → BeginsWithGenesis su → su.genesis.header.number ≡ 0
 unfolding genesis_block
 number_of_genesis su genesis = ap (λ (b : Block). b.header.number) genesis.block
 

@@ -13,7 +13,7 @@ use Rattle.safety_model.specs.Rules.{IsRun, is_bft_proof}
 use Rattle.safety_model.specs.State.{Setup, delivered, height, ledger}
 
 -- block 0 is the genesis block of the first configuration, which is a BFT one
-pub record IsGenesis (su : Setup) : Type 0 where
+pub record BeginsWithGenesis (su : Setup) : Type 0 where
   pub block : su.genesis ≡ genesis_block su.config
   pub bft : is_raft su.config ≡ false
 
@@ -88,4 +88,4 @@ pub record Agreement (su : Setup) (h : History) : Type 0 where
 
 -- whatever was allowed, the ledgers agree
 abbrev pub RunsAgree : Type 0
-RunsAgree = (su : Setup) (h : History) → IsGenesis su → IsRun su h → AllFit h → NoCollision su h → Agreement su h
+RunsAgree = (su : Setup) (h : History) → BeginsWithGenesis su → IsRun su h → AllFit h → NoCollision su h → Agreement su h

@@ -6,7 +6,7 @@ use Rattle.safety_model.specs.Facts.{Vote, Report, History, has, Stands, is_prep
 use Rattle.safety_model.specs.declared.fact.Fact.TheVariants.{Accepted, Prepared, Reported}
 use Rattle.safety_model.specs.Reports.{accepted_at, vote_eq}
 use Rattle.safety_model.specs.Rules.{HasQuorum, IsRun, bound_of, faulty}
-use Rattle.safety_model.specs.Safety.{IsGenesis}
+use Rattle.safety_model.specs.Safety.{BeginsWithGenesis}
 use Rattle.safety_model.specs.State.{Setup, height, left, view}
 
 -- whatever is done later, a node's height, its view and the view that it left for are no lower
@@ -46,5 +46,5 @@ IsCertified su h c v s d = HasQuorum su.byzantine c (λ j. has (is_prepared j c.
 -- where a quorum prepared a digest in a view, correct members accept nothing else at this number in later views
 abbrev pub CertifiedIsCarriedOn : Type 0
 CertifiedIsCarriedOn =
-    (su : Setup) (h : History) → IsGenesis su → IsRun su h → faulty su.byzantine su.config ≤ bound_of su.config
+    (su : Setup) (h : History) → BeginsWithGenesis su → IsRun su h → faulty su.byzantine su.config ≤ bound_of su.config
     → (v v' s j : ℕ) (d d' : List ℕ) → v < v' → IsCertified su h su.config v s d → Stands h (Accepted j su.config.number v' s d') → d' ≡ d

@@ -8,10 +8,10 @@ use Rattle.script.specs.declared.command.Stop.TheVariants.{Malformed, NotBuilt}
 use Rattle.script.specs.declared.command.Meaning.{Meaning}
 use Rattle.script.specs.declared.command.Meaning.TheVariants.{Nothing, Means}
 use Rattle.script.specs.Words.{Word, words}
-use Rattle.script.specs.Fields.{number_of, id_of, ticks_of, device_call_of, hex_of, payload_of, ids_of, given_ids_of, byzantine_of, vote_kind_of, image_of, entry_of, ranges_of}
-use Rattle.script.specs.Reading.{◌>>=◌, field, field_or, fitted, no_more}
+use Rattle.script.specs.Fields.{number_of, id_of, ticks_of, device_call_of, hex_of, payload_of, ids_of, given_ids_of, given_batch_of, byzantine_of, vote_kind_of, image_of, entry_of, ranges_of}
+use Rattle.script.specs.Reading.{◌>>=◌, field, field_or, fitted, taken, optional, no_more}
 use Rattle.script.specs.Commands.{IsId, AreIds, AreByzantine, AreBytes, AreRanges, IsImage, IsWellFormed}
-use Rattle.script.specs.Grammar.{genesis_line, submit_line, raw_line, tick_line, deliver_line, flush_line, show_line, propose_line, vote_line, lie_line, seal_line, byzantine_line_of, stop_line, stop_at_line, start_line, stopping_line_of, line_of, command_of, judged, meaning, same_as}
+use Rattle.script.specs.Grammar.{options_of, genesis_line, submit_line, raw_line, tick_line, deliver_line, flush_line, show_line, propose_line, vote_line, lie_line, seal_line, byzantine_line_of, stop_line, stop_at_line, start_line, stopping_line_of, line_of, command_of, judged, meaning, same_as}
 use Rattle.script.specs.Later.{is_later}
 use Rattle.script.proofs.FieldFits.{number_below, id_fits, hex_fits, IsPayload, payload_fits, ids_fit, byzantine_fit, given_ids_fit, ranges_fit, ticks_fit, device_call_fits, image_fits}
 
@@ -28,6 +28,14 @@ field_or_keeps : {A : Type 0} (other : A) (fits : List ℕ → Option A) (P : A 
 field_or_keeps other fits P given h [] y e = let same : (other, []) ≡ y = cc in rw (← same) given
 field_or_keeps other fits P given h (word ∷ more) y e = fitted_keeps P (fits word.text) word.place more y (h word.text) e
 
+taken_keeps : {A : Type 0} (P : A → Type 0) (other : A) (o : Option A) (word : Word) (more : List Word) → P other → ((x : A) → o ≡ Some x → P x) → P (taken other o word more).0
+taken_keeps P other None word more given h = given
+taken_keeps P other (Some x) word more given h = h x refl
+
+optional_keeps : {A : Type 0} (other : A) (fits : List ℕ → Option A) (P : A → Type 0) → P other → ((text : List ℕ) (x : A) → fits text ≡ Some x → P x) → (ws : List Word) → P (optional other fits ws).0
+optional_keeps other fits P given h [] = given
+optional_keeps other fits P given h (word ∷ more) = taken_keeps P other (fits word.text) word more given (h word.text)
+
 bind_keeps : {A B : Type 0} (r : Result A Stop) (f : A → Result B Stop) (Q : B → Type 0) → ((x : A) → r ≡ Ok x → IfOk (f x) Q) → IfOk (r >>= f) Q
 bind_keeps (Ok x) f Q h = h x refl
 bind_keeps (Err e) f Q h = tt
@@ -40,13 +48,11 @@ unfolding genesis_line
 genesis_fits past ws =
     bind_keeps (field (same_as (codes "bft")) past ws) _ IsWellFormed (λ kind k.
     bind_keeps (field ids_of past kind.1) _ IsWellFormed (λ members m.
-    bind_keeps (field (same_as (codes "batch=1")) past members.1) _ IsWellFormed (λ batch b.
-    bind_keeps (field_or [] byzantine_of batch.1) _ IsWellFormed (λ byzantine z.
-    bind_keeps (no_more byzantine.1) _ IsWellFormed (λ none n.
+    bind_keeps (no_more (options_of members.1).1) _ IsWellFormed (λ none n.
     record {
       member_ids = field_keeps ids_of AreIds ids_fit past kind.1 members m;
-      byzantine_ids = field_or_keeps [] byzantine_of AreByzantine no_byzantine byzantine_fit batch.1 byzantine z;
-    })))))
+      byzantine_ids = optional_keeps [] byzantine_of AreByzantine no_byzantine byzantine_fit (optional None given_batch_of members.1).1;
+    })))
 
 submit_fits : (past : ℕ) (ws : List Word) → IfOk (submit_line past ws) IsWellFormed
 unfolding submit_line

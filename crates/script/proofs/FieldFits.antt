@@ -13,19 +13,19 @@ use Rattle.script.specs.declared.command.Image.TheVariants.{Keep, Undo, Fill}
 use Rattle.script.specs.Fields.{digits_from, is_digit, nibble, pair_of, onto, pairs_of, number_of, not_zero, id_of, ticks_of, device_call_of, hex_of, payload_of, ids_from, ids_of, given_ids_of, byzantine_of, byte_of, image_of, entry_of, in_order, range_of_parts, range_of, ranges_from, ranges_of}
 use Rattle.script.specs.Commands.{IsId, AreIds, AreByzantine, AreBytes, IsRange, AreRanges, IsImage}
 
-picked : {A : Type 0} (b : Bool) (x : Option A) (y : A) → cond b x None ≡ Some y → (b ≡ true) × (x ≡ Some y)
+pub picked : {A : Type 0} (b : Bool) (x : Option A) (y : A) → cond b x None ≡ Some y → (b ≡ true) × (x ≡ Some y)
 picked true x y e = (refl, e)
 picked false x y e = absurd (cc)
 
-passed : {A : Type 0} (b : Bool) (x : Option A) (y : A) → cond b None x ≡ Some y → (b ≡ false) × (x ≡ Some y)
+pub passed : {A : Type 0} (b : Bool) (x : Option A) (y : A) → cond b None x ≡ Some y → (b ≡ false) × (x ≡ Some y)
 passed true x y e = absurd (cc)
 passed false x y e = (refl, e)
 
-both : (a b : Bool) → (a && b) ≡ true → (a ≡ true) × (b ≡ true)
+pub both : (a b : Bool) → (a && b) ≡ true → (a ≡ true) × (b ≡ true)
 both true b e = (refl, e)
 both false b e = absurd (cc)
 
-mapped : {A B : Type 0} (f : A → B) (o : Option A) (y : B) → option_map f o ≡ Some y → (x : A) × (o ≡ Some x) × (f x ≡ y)
+pub mapped : {A B : Type 0} (f : A → B) (o : Option A) (y : B) → option_map f o ≡ Some y → (x : A) × (o ≡ Some x) × (f x ≡ y)
 mapped f None y e = absurd (cc)
 mapped f (Some x) y e = let same : f x ≡ y = cc in (x, refl, same)
 
@@ -41,7 +41,7 @@ number_below most [] n e = absurd (cc)
 number_below most (b ∷ []) n e = digits_below most 0 n (b ∷ []) e (omega arith)
 number_below most (b ∷ c ∷ more) n e = digits_below most 0 n (b ∷ c ∷ more) (passed (b == 48) (digits_from most 0 (b ∷ c ∷ more)) n e).1 (omega arith)
 
-not_zero_fits : (found : Option ℕ) (n : ℕ) → not_zero found ≡ Some n → (found ≡ Some n) × (1 ≤ n)
+pub not_zero_fits : (found : Option ℕ) (n : ℕ) → not_zero found ≡ Some n → (found ≡ Some n) × (1 ≤ n)
 not_zero_fits None n e = absurd (cc)
 not_zero_fits (Some m) n e =
     let test = passed (m == 0) (Some m) n e in
@@ -172,7 +172,7 @@ range_parts_fit (first ∷ last ∷ []) range e =
     (λ to ends made. in_order_fits from to range (number_below (2 ^ 62 - 1) last to ends) made))
 range_parts_fit (first ∷ last ∷ other ∷ more) range e = absurd (cc)
 
-range_fits : (text : List ℕ) (range : Range) → range_of text ≡ Some range → IsRange range
+pub range_fits : (text : List ℕ) (range : Range) → range_of text ≡ Some range → IsRange range
 unfolding range_of
 range_fits text range e = range_parts_fit (slice_split (λ b. b == 45) text) range e
 
@@ -206,7 +206,7 @@ device_call_fits text n e =
     let found = not_zero_fits (number_of 1000000 text) n e in
     (found.1, number_below 1000000 text n found.0)
 
-byte_fits : (text : List ℕ) (b : ℕ) → byte_of text ≡ Some b → b < 256
+pub byte_fits : (text : List ℕ) (b : ℕ) → byte_of text ≡ Some b → b < 256
 byte_fits [] b e = absurd (cc)
 byte_fits (high ∷ []) b e = absurd (cc)
 byte_fits (high ∷ low ∷ []) b e = pair_below (nibble high) (nibble low) b (nibble_below high) (nibble_below low) e

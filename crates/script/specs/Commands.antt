@@ -25,7 +25,7 @@ pub record AreByzantine (ids : List ℕ) : Type 0 where
   pub ascending : IsStrictlyIncreasing ids
   pub each : All IsId ids
 
-pub record IsGenesis (members byzantine : List ℕ) : Type 0 where
+pub record IsGenesisLine (members byzantine : List ℕ) : Type 0 where
   pub member_ids : AreIds members
   pub byzantine_ids : AreByzantine byzantine
 
@@ -105,7 +105,7 @@ pub record IsStart (node : ℕ) : Type 0 where
 
 -- a command that a line may mean
 abbrev pub IsWellFormed : Command → Type 0
-IsWellFormed (Genesis members byzantine) = IsGenesis members byzantine
+IsWellFormed (Genesis members byzantine) = IsGenesisLine members byzantine
 IsWellFormed (Submit node client serial payload) = IsSubmit node client serial payload
 IsWellFormed (Raw node bytes) = IsRaw node bytes
 IsWellFormed (Tick node count) = IsTick node count

@@ -87,6 +87,14 @@ ids_of text = ids_from 0 31 (slice_split (λ b. b == 44) text)
 abbrev pub given_ids_of : List ℕ → Option (Option (List ℕ))
 given_ids_of text = option_map (λ ids. Some ids) (ids_of text)
 
+-- `batch=N`, the count of requests in a batch: 1 to 1,000
+unfoldable pub batch_of : List ℕ → Option ℕ
+batch_of text = if starts_with nat_eq text (codes "batch=") then not_zero (number_of 1000 (drop 6 text)) else None
+
+-- a batch that is given
+abbrev pub given_batch_of : List ℕ → Option (Option ℕ)
+given_batch_of text = option_map (λ n. Some n) (batch_of text)
+
 -- `byz=IDS`
 unfoldable pub byzantine_of : List ℕ → Option (List ℕ)
 byzantine_of text = if starts_with nat_eq text (codes "byz=") then ids_of (drop 4 text) else None

@@ -3,28 +3,37 @@ use Rattle.std.specs.Prelude.{ℕ, ◌-◌, ◌+◌, ◌^◌, ◌==◌, List, []
 use Rattle.std.specs.Str.{bytes_eq}
 use Rattle.script.specs.declared.command.Command.{Command}
 use Rattle.script.specs.declared.command.Command.TheVariants.{Genesis, Submit, Raw, Tick, Deliver, Flush, Show, Propose, Vote, Lie, Seal, Stop as StopNode, StopAt, Start}
+use Rattle.script.specs.declared.command.Options.{Options}
 use Rattle.script.specs.declared.command.Stop.{Stop}
 use Rattle.script.specs.declared.command.Stop.TheVariants.{Malformed, NotBuilt}
 use Rattle.script.specs.declared.command.Meaning.{Meaning}
 use Rattle.script.specs.declared.command.Meaning.TheVariants.{Nothing, Means, Wrong}
 use Rattle.script.specs.Words.{Word, words}
-use Rattle.script.specs.Fields.{number_of, id_of, ticks_of, hex_of, payload_of, ids_of, given_ids_of, byzantine_of, vote_kind_of, device_call_of, image_of, entry_of, ranges_of}
-use Rattle.script.specs.Reading.{◌>>=◌, field, field_or, no_more}
+use Rattle.script.specs.Fields.{number_of, id_of, ticks_of, hex_of, payload_of, ids_of, given_ids_of, given_batch_of, byzantine_of, vote_kind_of, device_call_of, image_of, entry_of, ranges_of}
+use Rattle.script.specs.Reading.{◌>>=◌, field, field_or, optional, no_more}
 use Rattle.script.specs.Later.{is_later}
 
 -- a word that is this one
 abbrev pub same_as : List ℕ → List ℕ → Option (Unit {0})
 same_as wanted text = if bytes_eq text wanted then Some tt else None
 
--- `genesis bft IDS batch=1 [byz=IDS]`
+-- what stands behind the batch
+abbrev pub options_behind : Option ℕ → List ℕ × List Word → Options × List Word
+options_behind batch byzantine = (record { batch = batch; byzantine = byzantine.0 }, byzantine.1)
+
+-- `[batch=N] [byz=IDS]`: the options in this order, each of which may be left out
+abbrev pub options_of : List Word → Options × List Word
+options_of w =
+    let batch = optional None given_batch_of w in options_behind batch.0 (optional [] byzantine_of batch.1)
+
+-- `genesis bft IDS [batch=N] [byz=IDS]`; where no word is `batch=1`, it belongs to a later part
 unfoldable pub genesis_line : ℕ → List Word → Result Command Stop
 genesis_line past w = do
   kind ← field (same_as (codes "bft")) past w
   members ← field ids_of past kind.1
-  batch ← field (same_as (codes "batch=1")) past members.1
-  byzantine ← field_or [] byzantine_of batch.1
-  none ← no_more byzantine.1
-  Ok (Genesis members.0 byzantine.0)
+  options ← Ok (options_of members.1)
+  none ← no_more options.1
+  Ok (Genesis members.0 options.0.byzantine)
 
 -- `submit NODE CLIENT SERIAL HEX`
 unfoldable pub submit_line : ℕ → List Word → Result Command Stop

@@ -1,5 +1,5 @@
 -- The lines of later parts.
-use Rattle.std.specs.Prelude.{ℕ, ◌||◌, ◌&&◌, not, Bool, true, List, [], ◌∷◌, nat_eq, codes}
+use Rattle.std.specs.Prelude.{ℕ, ◌||◌, ◌&&◌, not, Bool, true, false, List, [], ◌∷◌, nat_eq, codes}
 use Rattle.std.specs.List.{list_any, starts_with}
 use Rattle.std.specs.Str.{bytes_eq}
 use Rattle.script.specs.Words.{Word}
@@ -24,3 +24,8 @@ is_later_genesis (kind ∷ more) =
 -- a line of a later part, by its first word and those behind it
 abbrev pub is_later : List ℕ → List Word → Bool
 is_later first more = is_later_word first || (bytes_eq first (codes "genesis") && is_later_genesis more)
+
+-- the words of a line of a later part
+abbrev pub is_later_line : List Word → Bool
+is_later_line [] = false
+is_later_line (word ∷ more) = is_later word.text more

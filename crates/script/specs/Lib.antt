@@ -4,3 +4,5 @@ pub mod Reading
 pub mod Later
 pub mod Grammar
 pub mod Commands
+pub mod Printed
+pub mod Forms

@@ -26,6 +26,15 @@ abbrev pub field_or : {A : Type 0} → A → (List ℕ → Option A) → List Wo
 field_or other fits [] = Ok (other, [])
 field_or other fits (word ∷ more) = fitted (fits word.text) word.place more
 
+abbrev pub taken : {A : Type 0} → A → Option A → Word → List Word → A × List Word
+taken other None word more = (other, word ∷ more)
+taken other (Some x) word more = (x, more)
+
+-- the next word where it is one that fits; another word stays, and the value is this one
+abbrev pub optional : {A : Type 0} → A → (List ℕ → Option A) → List Word → A × List Word
+optional other fits [] = (other, [])
+optional other fits (word ∷ more) = taken other (fits word.text) word more
+
 -- no word is left
 abbrev pub no_more : List Word → Result (Unit {0}) Stop
 no_more [] = Ok tt

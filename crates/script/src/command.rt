@@ -115,6 +115,15 @@ pub enum Command {
     },
 }
 
+/// The options of a `genesis` line. Each may be left out, and they stand in this order.
+#[derive(Drop)]
+pub struct Options {
+    /// How many requests a batch has, 1 to 1,000: `batch=N`.
+    pub batch: Option<u32>,
+    /// The ids that are Byzantine, none where they aren't given: `byz=IDS`.
+    pub byzantine: List<u32>,
+}
+
 /// Why a line isn't read.
 #[derive(Clone, Copy, Debug, PartialEq, Eq)]
 pub enum Stop {

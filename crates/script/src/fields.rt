@@ -1,6 +1,6 @@
 ghost use Rattle.std.specs.Prelude.{◌≡◌, ◌≤◌, ◌<◌, ◌^◌, ◌+◌, ◌-◌, ◌*◌, ◌&&◌, ◌==◌, ◌∷◌, nat_le, nat_lt, if◌then◌else◌, Some, None, IfOk, IfSome, option_copied, length};
 ghost use Rattle.std.specs.List.{slice_split};
-ghost use Rattle.script.specs.Fields.{number_of, digits_from, nibble, pair_of, pairs_of, hex_of, payload_of, parts_left, ids_of, byzantine_of, vote_kind_of, id_of, ticks_of, device_call_of, image_of, entry_of, in_order, range_of, ranges_of};
+ghost use Rattle.script.specs.Fields.{number_of, digits_from, nibble, pair_of, pairs_of, hex_of, payload_of, parts_left, ids_of, batch_of, byzantine_of, vote_kind_of, id_of, ticks_of, device_call_of, image_of, entry_of, in_order, range_of, ranges_of};
 
 use crate::command::{Image, Range, VoteKind};
 use memchr::memchr;
@@ -159,6 +159,15 @@ pub fn ids(alloc: Global, text: &[u8]) -> Result<Option<List<u32>>, NoMemory>
         left = more;
     }
     Ok(Some(ids))
+}
+
+/// `batch=N`, the count of requests in a batch: 1 to 1,000.
+#[tactic(auto, unfolding(crate::specs::Fields::batch_of))]
+pub fn batch(text: &[u8]) -> Option<u32>
+    ensures { result ≡ batch_of text.now }
+{
+    let n = number(text.strip_prefix(b"batch=")?, 1_000)?;
+    if n == 0 { None } else { Some(n as u32) }
 }
 
 /// `byz=IDS`.

@@ -3,7 +3,7 @@ ghost use Rattle.script.specs.Words.{Word, words, words_left};
 ghost use Rattle.script.specs.Reading.{Gives, Reads};
 ghost use Rattle.script.specs.Grammar.{genesis_line, submit_line, raw_line, tick_line, deliver_line, flush_line, show_line, line_of, command_of, meaning};
 
-use crate::command::{Command, Halt, Meaning, Stop, malformed};
+use crate::command::{Command, Halt, Meaning, Options, Stop, malformed};
 use crate::later::is_later;
 use crate::stopping::stopping_line;
 use crate::words::Words;
@@ -53,8 +53,10 @@ fn genesis_line(alloc: Global, words: &mut Words<'_>) -> Result<Command, Halt>
 {
     words.same(b"bft")?;
     let members = words.ids(alloc)?;
-    words.same(b"batch=1")?;
-    let byzantine = words.byzantine(alloc)?;
+    let Options {
+        batch: _,
+        byzantine,
+    } = words.options(alloc)?;
     words.end()?;
     Ok(Command::Genesis { members, byzantine })
 }

@@ -1,16 +1,17 @@
 ghost use Rattle.std.specs.Prelude.{◌≡◌, ◌≤◌, ◌+◌, ◌^◌, ◌-◌, ◌∷◌, [], IsNone, IfNone, IfSome, IfOk, IfErr, None, length, nat_lt};
 ghost use Rattle.script.specs.declared.command.Stop.TheVariants.{Malformed};
 ghost use Rattle.script.specs.Words.{words_left};
-ghost use Rattle.script.specs.Fields.{number_of, id_of, ticks_of, hex_of, payload_of, ids_of, given_ids_of, byzantine_of, vote_kind_of, device_call_of, image_of, entry_of, ranges_of};
-ghost use Rattle.script.specs.Grammar.{same_as};
-ghost use Rattle.script.specs.Reading.{Reads, Gives, field, field_or, no_more};
+ghost use Rattle.script.specs.Fields.{number_of, id_of, ticks_of, hex_of, payload_of, ids_of, given_ids_of, given_batch_of, byzantine_of, vote_kind_of, device_call_of, image_of, entry_of, ranges_of};
+ghost use Rattle.script.specs.Grammar.{same_as, options_of};
+ghost use Rattle.script.specs.Reading.{Reads, Gives, field, field_or, optional, no_more};
 
-use crate::command::{Halt, Image, Range, VoteKind, malformed};
+use crate::command::{Halt, Image, Options, Range, VoteKind, malformed};
 use crate::fields::{
-    byzantine, device_call, entry, hex, id, ids, image, number, payload, ranges, ticks, vote_kind,
+    batch, byzantine, device_call, entry, hex, id, ids, image, number, payload, ranges, ticks,
+    vote_kind,
 };
 use memchr::memchr;
-use ord_types::{Bytes, List};
+use ord_types::{Bytes, List, NoMemory};
 use std::alloc::Global;
 
 /// The words of a line, one after the other.
@@ -236,18 +237,44 @@ impl<'a> Words<'a> {
         }
     }
 
-    /// `byz=IDS`, no ids where there is no word.
-    pub fn byzantine(&mut self, alloc: Global) -> Result<List<u32>, Halt>
+    /// `batch=N` where the next word is that; another word stays.
+    fn batch(&mut self) -> Option<u32>
         ensures line { self.new.line.now ≡ self.old.line.now }
-        ensures reads { Reads result (words_left self.new.line.now self.new.from) (field_or [] byzantine_of (words_left self.old.line.now self.old.from)) }
+        ensures reads { (result, words_left self.new.line.now self.new.from) ≡ optional None given_batch_of (words_left self.old.line.now self.old.from) }
     {
-        let Some((place, word)) = self.next() else {
+        let mut ahead = self.again();
+        let (_, word) = ahead.next()?;
+        let count = batch(word)?;
+        self.from = ahead.from;
+        Some(count)
+    }
+
+    /// `byz=IDS` where the next word is that; another word stays, and there are no ids.
+    fn byzantine(&mut self, alloc: Global) -> Result<List<u32>, NoMemory>
+        ensures line { self.new.line.now ≡ self.old.line.now }
+        ensures reads { IfOk result (λ ids. (ids, words_left self.new.line.now self.new.from) ≡ optional [] byzantine_of (words_left self.old.line.now self.old.from)) }
+    {
+        let mut ahead = self.again();
+        let Some((_, word)) = ahead.next() else {
             return Ok(List::new(alloc));
         };
         match byzantine(alloc, word)? {
-            Some(ids) => Ok(ids),
-            None => Err(malformed(place)),
+            Some(ids) => {
+                self.from = ahead.from;
+                Ok(ids)
+            }
+            None => Ok(List::new(alloc)),
         }
+    }
+
+    /// The options of a genesis, in order; a word that is none of them stays.
+    pub fn options(&mut self, alloc: Global) -> Result<Options, NoMemory>
+        ensures line { self.new.line.now ≡ self.old.line.now }
+        ensures reads { IfOk result (λ options. (options, words_left self.new.line.now self.new.from) ≡ options_of (words_left self.old.line.now self.old.from)) }
+    {
+        let batch = self.batch();
+        let byzantine = self.byzantine(alloc)?;
+        Ok(Options { batch, byzantine })
     }
 
     /// Ranges joined by commas.

@@ -82,6 +82,7 @@ use Rattle.world_model.specs.Worlds.{
   node_at,
   node_started,
   node_stopped,
+  outcome_in,
   running,
   running_at,
   tick_of,
@@ -364,7 +365,8 @@ module _ (number : ℕ) where
   event_same : (event : Event) → AlikeAt (λ S T setting w node. event_turn setting number w node event)
   unfolding event_turn
   event_same event w all node ahead =
-      either_same node.armed (by_same event (first_outcome w.outcomes) (with_later w) all node ahead)
+      let outcome = outcome_in (making past_setting w node event) (first_outcome w.outcomes) in
+      either_same node.armed (by_same event outcome (with_later w) all node ahead)
       (goes_same event w all node ahead)
 
   -- TICK

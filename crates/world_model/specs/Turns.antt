@@ -76,6 +76,7 @@ use Rattle.world_model.specs.Worlds.{
   running_at,
   with_node,
   making,
+  outcome_in,
   world_after,
   world_stopped,
   world_stopped_in,
@@ -126,10 +127,12 @@ first_outcome (outcome ∷ more) = outcome
 abbrev pub with_later : {S T : Type 0} → World S T → World S T
 with_later w = record w { outcomes = drop 1 w.outcomes }
 
--- an armed node takes an outcome
+-- An armed node takes an outcome, also where it has no deed and so goes on.
 unfoldable pub event_turn : {S T : Type 0} → Setting S T → ℕ → World S T → Node S → Event → Turn (World S T)
 event_turn setting number w node event =
-    if node.armed then event_by setting number (with_later w) node event (first_outcome w.outcomes)
+    if node.armed
+    then event_by setting number (with_later w) node event
+    (outcome_in (making setting w node event) (first_outcome w.outcomes))
     else event_goes setting number w node event
 
 -- the node runs

@@ -8,6 +8,7 @@ use Rattle.std.specs.Prelude.{
   false,
   ◌&&◌,
   ◌==◌,
+  nat_lt,
   not,
   List,
   [],
@@ -41,6 +42,7 @@ use Rattle.node_model.specs.Entries.{
   Entry as Happened,
   Opened,
   Post,
+  deeds_of,
   facts_of,
   posts_of,
   statements_of,
@@ -67,6 +69,11 @@ pub record Setting (S T : Type 0) : Type 0 where
 pub data Outcome : Type 0 where
   GoesOn : Outcome
   Stops : ℕ → Outcome
+
+-- A disk stops at a call, and only what is made durable calls it: an event without a deed goes on, whatever
+-- is said of it.
+abbrev pub outcome_in : List Happened → Outcome → Outcome
+outcome_in made outcome = if nat_lt 0 (length (deeds_of made)) then outcome else GoesOn
 
 -- Its ledger has each block with what stands behind it, from block 0 on. It runs, or is stopped; it is armed
 -- where its disk is to stop at a later call.

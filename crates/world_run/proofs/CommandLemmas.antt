@@ -4,7 +4,7 @@ use Rattle.std.specs.Prelude.{string_bytes}
 use Rattle.std.proofs.lemmas.Result.{IfOk-weaker}
 use Rattle.gate_log.specs.declared.image.Image.{Image}
 use Rattle.ord_types.specs.declared.lists.NoMemory.{NoMemory}
-use Rattle.node_model.specs.Restarts.{Returned}
+use Rattle.node_model.specs.Cores.{Core}
 use Rattle.script_play.specs.Turns.{Turn, Turned}
 use Rattle.script_play.specs.declared.ending.Ending.{Ending}
 use Rattle.world_model.specs.Liars.{as_liar}
@@ -31,28 +31,28 @@ use Rattle.world_run.proofs.SaysLemmas.{plays_here, says_after}
 
 -- ABOUT A NODE THAT RUNS
 
-pub at_absent : (at : Lodging) (w : World) (later : List Outcome) (number id : ℕ) (turn : worlds.Node Returned → Turn Model) → whereabouts_of id w.members.items ≡ Absent
+pub at_absent : (at : Lodging) (w : World) (later : List Outcome) (number id : ℕ) (turn : worlds.Node Core → Turn Model) → whereabouts_of id w.members.items ≡ Absent
     → at_node number (world_of at w later) id turn ≡ refuses number (absence (world_of at w later) id) (world_of at w later)
 at_absent at w later number id turn is = rw (node_at_none w.config at id w.members.items (where_absent id w.members.items is)) refl
 
-pub at_halted : (at : Lodging) (w : World) (later : List Outcome) (number id place : ℕ) (turn : worlds.Node Returned → Turn Model) → whereabouts_of id w.members.items ≡ Stopped place
+pub at_halted : (at : Lodging) (w : World) (later : List Outcome) (number id place : ℕ) (turn : worlds.Node Core → Turn Model) → whereabouts_of id w.members.items ≡ Stopped place
     → at_node number (world_of at w later) id turn ≡ refuses number (codes "stopped") (world_of at w later)
 at_halted at w later number id place turn is =
     let stands = where_stopped id w.members.items place is in
     rw (node_standing w.config at id w.members.items place false stands, stands.runs) refl
 
-pub at_running : (at : Lodging) (w : World) (later : List Outcome) (number id place : ℕ) (turn : worlds.Node Returned → Turn Model) (stands : StandsAt id w.members.items place true)
+pub at_running : (at : Lodging) (w : World) (later : List Outcome) (number id place : ℕ) (turn : worlds.Node Core → Turn Model) (stands : StandsAt id w.members.items place true)
     → at_node number (world_of at w later) id turn ≡ turn (node_of w.config at stands.member)
 at_running at w later number id place turn stands = rw (node_standing w.config at id w.members.items place true stands, stands.runs) refl
 
 -- a line about one that is absent, or stopped, says so
-pub absent_says : (result : Result (Option Ending) NoMemory) (w new : World) (id : ℕ) (turn : Model → worlds.Node Returned → Turn Model) → whereabouts_of id w.members.items ≡ Absent
+pub absent_says : (result : Result (Option Ending) NoMemory) (w new : World) (id : ℕ) (turn : Model → worlds.Node Core → Turn Model) → whereabouts_of id w.members.items ≡ Absent
     → IfOk result (Says w new (λ v. refuses w.outside.number (absence v id) v)) → IfOk result (Says w new (λ v. at_node w.outside.number v id (turn v)))
 absent_says result w new id turn is says =
     says_after result w w new (λ (v : Model). refuses w.outside.number (absence v id) v) (λ (v : Model). at_node w.outside.number v id (turn v)) refl
     (λ at later. sym (at_absent at w later w.outside.number id (turn (world_of at w later)) is)) says
 
-pub halted_says : (result : Result (Option Ending) NoMemory) (w new : World) (id place : ℕ) (turn : Model → worlds.Node Returned → Turn Model) → whereabouts_of id w.members.items ≡ Stopped place
+pub halted_says : (result : Result (Option Ending) NoMemory) (w new : World) (id place : ℕ) (turn : Model → worlds.Node Core → Turn Model) → whereabouts_of id w.members.items ≡ Stopped place
     → IfOk result (Says w new (refuses w.outside.number (codes "stopped"))) → IfOk result (Says w new (λ v. at_node w.outside.number v id (turn v)))
 halted_says result w new id place turn is says =
     says_after result w w new (refuses w.outside.number (codes "stopped")) (λ (v : Model). at_node w.outside.number v id (turn v)) refl
@@ -60,20 +60,20 @@ halted_says result w new id place turn is says =
 
 -- ABOUT A STOPPED ONE
 
-pub stopped_absent_says : (result : Result (Option Ending) NoMemory) (w new : World) (id : ℕ) (turn : Model → worlds.Node Returned → Turn Model) → whereabouts_of id w.members.items ≡ Absent
+pub stopped_absent_says : (result : Result (Option Ending) NoMemory) (w new : World) (id : ℕ) (turn : Model → worlds.Node Core → Turn Model) → whereabouts_of id w.members.items ≡ Absent
     → IfOk result (Says w new (λ v. refuses w.outside.number (absence v id) v)) → IfOk result (Says w new (λ v. at_stopped w.outside.number v id (turn v)))
 stopped_absent_says result w new id turn is says =
     says_after result w w new (λ (v : Model). refuses w.outside.number (absence v id) v) (λ (v : Model). at_stopped w.outside.number v id (turn v)) refl
     (λ at later. rw (node_at_none w.config at id w.members.items (where_absent id w.members.items is)) refl) says
 
-pub running_says : (result : Result (Option Ending) NoMemory) (w new : World) (id place : ℕ) (turn : Model → worlds.Node Returned → Turn Model) → whereabouts_of id w.members.items ≡ Running place
+pub running_says : (result : Result (Option Ending) NoMemory) (w new : World) (id place : ℕ) (turn : Model → worlds.Node Core → Turn Model) → whereabouts_of id w.members.items ≡ Running place
     → IfOk result (Says w new (refuses w.outside.number (codes "running"))) → IfOk result (Says w new (λ v. at_stopped w.outside.number v id (turn v)))
 running_says result w new id place turn is says =
     let stands = where_running id w.members.items place is in
     says_after result w w new (refuses w.outside.number (codes "running")) (λ (v : Model). at_stopped w.outside.number v id (turn v)) refl
     (λ at later. rw (node_standing w.config at id w.members.items place true stands, stands.runs) refl) says
 
-pub at_stopped_one : (at : Lodging) (w : World) (later : List Outcome) (number id place : ℕ) (turn : worlds.Node Returned → Turn Model) (stands : StandsAt id w.members.items place false)
+pub at_stopped_one : (at : Lodging) (w : World) (later : List Outcome) (number id place : ℕ) (turn : worlds.Node Core → Turn Model) (stands : StandsAt id w.members.items place false)
     → at_stopped number (world_of at w later) id turn ≡ turn (node_of w.config at stands.member)
 at_stopped_one at w later number id place turn stands = rw (node_standing w.config at id w.members.items place false stands, stands.runs) refl
 
@@ -95,7 +95,7 @@ may_says result w new from to turn is says =
 -- WHAT IS PLAYED
 
 -- where the node runs, the turn of the line is that of the node
-pub plays_running : (at next : Lodging) (w new : World) (id place : ℕ) (turn : Model → worlds.Node Returned → Turn Model) (ending : Option Ending) (stands : StandsAt id w.members.items place true)
+pub plays_running : (at next : Lodging) (w new : World) (id place : ℕ) (turn : Model → worlds.Node Core → Turn Model) (ending : Option Ending) (stands : StandsAt id w.members.items place true)
     → Plays at next w new (λ v. turn v (node_of w.config at stands.member)) ending → Plays at next w new (λ v. at_node w.outside.number v id (turn v)) ending
 plays_running at next w new id place turn ending stands plays =
     by_weaker (Unit {0}) at next w new (λ v to. Turned (turn v (node_of w.config at stands.member)) (string_bytes w.outside.text) (string_bytes new.outside.text) to ending)
@@ -106,7 +106,7 @@ plays_running at next w new id place turn ending stands plays =
     plays
 
 -- the same of a turn that any node of this id has
-pub running_plays : (result : Result (Option Ending) NoMemory) (at next : Lodging) (w new : World) (id place : ℕ) (turn : Model → worlds.Node Returned → Turn Model) (stands : StandsAt id w.members.items place true)
+pub running_plays : (result : Result (Option Ending) NoMemory) (at next : Lodging) (w new : World) (id place : ℕ) (turn : Model → worlds.Node Core → Turn Model) (stands : StandsAt id w.members.items place true)
     → IfOk result (Plays at next w new (λ v. turn v (node_of w.config at stands.member))) → IfOk result (Plays at next w new (λ v. at_node w.outside.number v id (turn v)))
 running_plays result at next w new id place turn stands plays =
     IfOk-weaker result (Plays at next w new (λ v. turn v (node_of w.config at stands.member))) (Plays at next w new (λ v. at_node w.outside.number v id (turn v)))
@@ -135,7 +135,7 @@ armed_plays at next w new id place call image stands armed turned =
       made = (next, armed, alike_self next);
       config = let first = (turned []).next in sym (ap (λ (v : Model). v.config) (ok_same _ _ first));
       so = λ later.
-          Turned-same (stop_at_turn w.outside.number (world_of at w later) (node_of w.config at stands.member)) (at_node w.outside.number (world_of at w later) id (λ (node : worlds.Node Returned). stop_at_turn w.outside.number (world_of at w later) node)) _ _ _ None
-          (sym (at_running at w later w.outside.number id place (λ (node : worlds.Node Returned). stop_at_turn w.outside.number (world_of at w later) node) stands)) (turned later);
+          Turned-same (stop_at_turn w.outside.number (world_of at w later) (node_of w.config at stands.member)) (at_node w.outside.number (world_of at w later) id (λ (node : worlds.Node Core). stop_at_turn w.outside.number (world_of at w later) node)) _ _ _ None
+          (sym (at_running at w later w.outside.number id place (λ (node : worlds.Node Core). stop_at_turn w.outside.number (world_of at w later) node) stands)) (turned later);
       decided = λ no. absurd no;
     }

@@ -2,7 +2,7 @@
 use Rattle.std.proofs.Common.{◌≡◌, ℕ, ◌<◌, List, [], length, map, get_or, set, slice_get, true, Option, Some, None, refl, sym, subst}
 use Rattle.std.specs.Prelude.{string_bytes}
 use Rattle.std.proofs.lemmas.List.{map-set}
-use Rattle.node_model.specs.Steps.{FromMember}
+use Rattle.node_model.specs.declared.event.Event.TheVariants.{FromMember}
 use Rattle.script_play.specs.declared.ending.Ending.{Ending}
 use Rattle.script_play.specs.Turns.{Turned}
 use Rattle.world_model.specs.Cores.{core_setting}

@@ -1,8 +1,9 @@
 -- Lemmas on the first world: the nodes of a genesis are opened one after another, each on an empty disk.
-use Rattle.std.proofs.Common.{◌≡◌, ◌≢◌, ℕ, Bool, ◌+◌, ◌<◌, ◌≤◌, ◌⊎◌, true, false, not, List, [], ◌∷◌, ◌++◌, Some, None, Result, Ok, Global, Vec}
+use Rattle.std.proofs.Common.{◌≡◌, ◌≢◌, ℕ, Bool, ◌+◌, ◌<◌, ◌≤◌, ◌⊎◌, true, false, not, List, [], ◌∷◌, ◌++◌, Some, None, Global, Vec}
 use Rattle.std.proofs.Common.{filter, get_or, length, map, take, inl, inr, refl, sym, ap, ◌∙◌, subst, arith}
 use Rattle.std.specs.List.{AllByRecursion}
 use Rattle.std.specs.List.Sorted.{IsStrictlyIncreasing}
+use Rattle.std.proofs.Math.Path.{fun_ext}
 use Rattle.std.proofs.Math.Seq.{take-nil}
 use Rattle.std.proofs.lemmas.Bool.{cases_eq}
 use Rattle.std.proofs.lemmas.List.{append-nil, map-append, take_all}
@@ -12,27 +13,21 @@ use Rattle.ord_types.specs.Genesis.{IsGenesisConfig}
 use Rattle.ord_types.specs.Members.{is_in}
 use Rattle.safety_model.specs.Blocks.{Config, Request}
 use Rattle.gate_log.specs.Disk.{File}
-use Rattle.gate_log.specs.Format.{reading}
 use Rattle.gate_log.specs.Memory.{IsEmptyDisk}
 use Rattle.gate_log.specs.declared.memory.MemDisk.{MemDisk}
 use Rattle.signer_edge.specs.Accepts.{Accepts}
 use Rattle.signer_edge.specs.Seals.{is_sealed}
 use Rattle.signer_edge.specs.declared.seals.Seal.{Seal}
-use Rattle.bft_wal.specs.Opening.{opens_as}
-use Rattle.bft_wal.specs.declared.record.WalRecord.{WalRecord}
-use Rattle.block_ledger.specs.Chains.{Entry, IsChain, genesis_entry}
-use Rattle.block_ledger.specs.Reading.{Chain, stands_for}
-use Rattle.node_model.specs.Restarts.{Returned, returned_returns}
-use Rattle.world_model.specs.Cores.{core_setting}
+use Rattle.block_ledger.specs.Chains.{Entry, genesis_entry}
+use Rattle.node_model.specs.Cores.{Core, core_on}
+use Rattle.world_model.specs.Cores.{core_keeping, core_setting}
 use Rattle.world_model.specs.Turns.{first_node, first_world}
 use Rattle.world_model.specs.Worlds as worlds
 use Rattle.world_model.specs.Worlds.{Outcome}
-use Rattle.bft_node.specs.Held.{Held}
-use Rattle.bft_node.specs.Lodgings.{Becomes, IsOpenedOn, Lodging, accepts_of}
-use Rattle.bft_node.specs.Returning.{opened}
-use Rattle.bft_node.specs.Running.{state_of}
-use Rattle.bft_node.specs.Standing.{BeginsStanding, OpensAsModel, Stands, first_held}
-use Rattle.bft_node.specs.Stores.{held_of}
+use Rattle.bft_node.specs.Lodgings.{Becomes, HoldsIn, IsOpenedOn, Lodging, accepts_of, files_of}
+use Rattle.bft_node.specs.Crashes.{Image as Files}
+use Rattle.bft_node.specs.Running.{chain_of, state_of}
+use Rattle.bft_node.specs.Recovering.{EmptyFilesKeep, Keeps}
 use Rattle.bft_node.specs.declared.lodged.Lodged.{Lodged}
 use Rattle.world_run.specs.Beginning.{Begins}
 use Rattle.world_run.specs.Entries.{entry_of}
@@ -48,7 +43,7 @@ use Rattle.world_run.proofs.ListLemmas.{ids_of}
 use Rattle.world_run.proofs.MoveLemmas.{alike_self, moves_then, outcomes_then}
 use Rattle.world_run.proofs.NodeLemmas.{node_there}
 
--- ON AN EMPTY DISK a node holds the genesis block, and is that of the model
+-- ON AN EMPTY DISK a node has the genesis block, and is that of the model
 
 -- nothing was accepted of a box without seals
 abbrev pub nothing_sealed : Accepts
@@ -57,47 +52,30 @@ nothing_sealed = is_sealed []
 -- the node has done nothing
 pub record IsFresh (c : Config) (id : ℕ) (l : Lodged) : Type 0 where
   pub seated : IsSeated c nothing_sealed id l
-  pub held : held_of l.node.running.store ≡ first_held c
-  pub state : state_of l.node.running ≡ returned_returns.ways.opens c [] id
+  pub chain : chain_of l.node.running ≡ genesis_entry c ∷ []
+  pub state : state_of l.node.running ≡ core_on c id
 
-stands_for_nothing : (accepts : Accepts) (c : Config) → stands_for accepts c [] ≡ Chain (genesis_entry c ∷ [])
-unfolding stands_for reading
-stands_for_nothing accepts c = refl
+files_empty : (disk : MemDisk) → IsEmptyDisk [] disk → files_of disk ≡ (λ file. [])
+files_empty disk empty = fun_ext (λ file. ap (λ (f : File). f.reads) (empty.files file))
 
-opens_as_nothing : opens_as [] ≡ Ok []
-unfolding reading
-opens_as_nothing = refl
-
-held_first : (c : Config) (held : Held) → Chain held.blocks ≡ Chain (genesis_entry c ∷ []) → ◌≡◌ {A = Result (List WalRecord) ℕ} (Ok held.records) (Ok []) → held ≡ first_held c
-held_first c held blocks records =
-    let same : held.blocks ≡ genesis_entry c ∷ [] = cc in
-    let none : held.records ≡ [] = cc in
-    rw (same, none) refl
-
--- the state of the model's node that has done nothing
-abbrev first_state : Config → ℕ → Returned
-first_state c id = returned_returns.ways.opens c [] id
-
-pub opens_fresh : BeginsStanding → OpensAsModel → (c : Config) (id : ℕ) (accepts : Accepts) (disk : MemDisk) (l : Lodged) → accepts ≡ nothing_sealed → IsEmptyDisk [] disk
+pub opens_fresh : EmptyFilesKeep → (c : Config) (id : ℕ) (accepts : Accepts) (disk : MemDisk) (l : Lodged)
+    → IsGenesisConfig c → accepts ≡ nothing_sealed → IsEmptyDisk [] disk
     → IsOpenedOn (setup_of c id) accepts disk l → IsFresh c id l
-opens_fresh begins opens c id accepts disk l unsealed empty is =
-    let r = l.node.running in
-    let held : held_of r.store ≡ first_held c =
-    held_first c (held_of r.store)
-    (sym is.value.0 ∙ ap (λ (f : File). stands_for accepts c f.reads) (empty.files 2) ∙ stands_for_nothing accepts c)
-    (sym is.value.1 ∙ ap (λ (f : File). opens_as f.reads) (empty.files 0) ∙ opens_as_nothing) in
-    let state : state_of r ≡ first_state c id = is.state ∙ ap (λ (h : Held). opened c id h) held ∙ opens c id (first_held c) (first_state c id) (begins c id) in
+opens_fresh keep c id accepts disk l genesis unsealed empty is =
+    let chain : List Entry = genesis_entry c ∷ [] in
+    let keeps : Keeps accepts c id (files_of disk) chain (core_on c id) =
+    subst (λ (files : Files). Keeps accepts c id files chain (core_on c id)) (sym (files_empty disk empty))
+    (keep accepts c id genesis) in
+    let found = is.finds chain (core_on c id) keeps in
     record {
       seated = record {
         runs = is.runs;
         named = is.id;
         config = is.config;
-        chain = subst (λ (a : Accepts). IsChain a c (held_of r.store).blocks) unsealed is.chain;
-        stands = subst (λ (h : Held). Stands c id h (state_of r).core) (sym held) (subst (λ (s : Returned). Stands c id (first_held c) s.core) (sym state) (begins c id));
-        kept = is.kept;
+        holds = subst (λ (a : Accepts). HoldsIn a l) unsealed found.holds;
       };
-      held = held;
-      state = state;
+      chain = found.chain;
+      state = found.state;
     }
 
 -- THE FIRST MEMBERS
@@ -134,23 +112,24 @@ first_becomes c before after id l member becomes fresh is (inl here) =
 first_becomes c before after id l member becomes fresh is (inr other) =
     record { node = is.node; there = becomes.others member.id other ∙ is.there; fresh = is.fresh; pool = is.pool; runs = is.runs; armed = is.armed }
 
-node_made : (c : Config) (byzantine : List ℕ) (id : ℕ) (state : Returned) (pool : List Request) (ledger : List Entry) (runs armed : Bool) → state ≡ first_state c id → pool ≡ []
+node_made : (c : Config) (id : ℕ) (state : Core) (pool : List Request) (ledger : List Entry) (runs armed : Bool) → state ≡ core_on c id → pool ≡ []
     → ledger ≡ genesis_entry c ∷ [] → runs ≡ true → armed ≡ false
-    → ◌≡◌ {A = worlds.Node Returned} (record { id = id; state = state; pool = pool; ledger = ledger; runs = runs; armed = armed }) (first_node core_setting c byzantine id)
-node_made c byzantine id state pool ledger runs armed same empty begun run unarmed = rw (same, empty, begun, run, unarmed) refl
+    → ◌≡◌ {A = worlds.Node Core} (record { id = id; state = state; pool = pool; ledger = ledger; runs = runs; armed = armed }) (first_node core_keeping c id)
+node_made c id state pool ledger runs armed same empty begun run unarmed = rw (same, empty, begun, run, unarmed) refl
 
 -- each is the first node of the model
-node_first : (c : Config) (byzantine : List ℕ) (at : Lodging) (member : Member) → IsFirst c at member → node_of c at member ≡ first_node core_setting c byzantine member.id
-node_first c byzantine at member is =
+node_first : (c : Config) (at : Lodging) (member : Member) → IsFirst c at member
+    → node_of c at member ≡ first_node core_keeping c member.id
+node_first c at member is =
     let r = is.node.node.running in
     node_there c at member is.node is.there
-    ∙ node_made c byzantine member.id (state_of r) member.pool.items (held_of r.store).blocks member.runs member.armed is.fresh.state is.pool
-    (ap (λ (h : Held). h.blocks) is.fresh.held) is.runs is.armed
+    ∙ node_made c member.id (state_of r) member.pool.items (chain_of r) member.runs member.armed is.fresh.state
+    is.pool is.fresh.chain is.runs is.armed
 
-nodes_first : (c : Config) (byzantine : List ℕ) (at : Lodging) (members : List Member) → AllByRecursion (IsFirst c at) members
-    → map (node_of c at) members ≡ map (first_node core_setting c byzantine) (ids_of members)
-nodes_first c byzantine at [] all = refl
-nodes_first c byzantine at (x ∷ xs) all = rw (node_first c byzantine at x all.0, nodes_first c byzantine at xs all.1) refl
+nodes_first : (c : Config) (at : Lodging) (members : List Member) → AllByRecursion (IsFirst c at) members
+    → map (node_of c at) members ≡ map (first_node core_keeping c) (ids_of members)
+nodes_first c at [] all = refl
+nodes_first c at (x ∷ xs) all = rw (node_first c at x all.0, nodes_first c at xs all.1) refl
 
 -- THE FIRST IDS have their nodes
 
@@ -206,16 +185,19 @@ has_skipped before at old w k id within is liar has =
     }
 
 -- another one is opened
-pub has_more : BeginsStanding → OpensAsModel → (before at next : Lodging) (old w new : World) (k id : ℕ) → IsStrictlyIncreasing old.config.members → k < length old.config.members
+pub has_more : EmptyFilesKeep → (before at next : Lodging) (old w new : World) (k id : ℕ)
+    → IsGenesisConfig old.config → IsStrictlyIncreasing old.config.members → k < length old.config.members
     → id ≡ get_or old.config.members k 0 → is_in id old.byzantine ≡ false → Begins at next w new id → HasFirst before at old w k → HasFirst before next old new (k + 1)
-has_more begins opens before at next old w new k id rise within is correct_one begun has =
+has_more keep before at next old w new k id genesis rise within is correct_one begun has =
     let ids = old.config.members in
     let p = λ (id : ℕ). not (is_in id old.byzantine) in
     let correct' : p (get_or ids k 0) ≡ true = ap p (sym is) ∙ ap not correct_one in
-    let fresh : IsFresh w.config id begun.node = opens_fresh begins opens w.config id (accepts_of w.outside.seat) begun.disk begun.node (ap is_sealed has.seals) begun.empty begun.opened in
-    let fresh' : IsFresh old.config id begun.node = subst (λ (c : Config). IsFresh c id begun.node) has.config fresh in
     let one : Move = Opens id begun.disk w.outside.seat in
-    let opened' = subst (λ (c : Config). IsOpenedOn (setup_of c id) (accepts_of w.outside.seat) begun.disk begun.node) has.config begun.opened in
+    let opened' = subst (λ (c : Config).
+    IsOpenedOn (setup_of c id) (accepts_of w.outside.seat) begun.disk begun.node) has.config begun.opened in
+    let fresh' : IsFresh old.config id begun.node =
+    opens_fresh keep old.config id (accepts_of w.outside.seat) begun.disk begun.node genesis
+    (ap is_sealed has.seals) begun.empty opened' in
     record {
       config = begun.config ∙ has.config;
       byzantine = begun.byzantine ∙ has.byzantine;
@@ -263,16 +245,16 @@ module _ (before at : Lodging) (old w : World) (k : ℕ) (all : length old.confi
 
   pub first_value : (later : List Outcome) → world_of at w later ≡ first_world core_setting later old.config old.byzantine
   first_value later =
-      let f = first_node core_setting old.config old.byzantine in
+      let f = first_node core_keeping old.config in
       let nodes : map (node_of w.config at) w.members.items ≡ map f (correct old.byzantine old.config.members) =
       ap (λ (c : Config). map (node_of c at) w.members.items) has.config
-      ∙ nodes_first old.config old.byzantine at w.members.items has.first
+      ∙ nodes_first old.config at w.members.items has.first
       ∙ ap (map f) ids_all in
       world_made w.config old.config w.byzantine old.byzantine (map (node_of w.config at) w.members.items) (map entry_of w.outside.network.items) w.outside.seat.seals later
       has.config has.byzantine nodes (ap (map entry_of) has.network) has.seals
     where
-      world_made : (c d : Config) (xs ys : List ℕ) (nodes : List (worlds.Node Returned)) (network : List worlds.Entry) (seals : List Seal) (later : List Outcome) → c ≡ d → xs ≡ ys
-          → nodes ≡ map (first_node core_setting d ys) (correct ys d.members) → network ≡ [] → seals ≡ []
+      world_made : (c d : Config) (xs ys : List ℕ) (nodes : List (worlds.Node Core)) (network : List worlds.Entry) (seals : List Seal) (later : List Outcome) → c ≡ d → xs ≡ ys
+          → nodes ≡ map (first_node core_keeping d) (correct ys d.members) → network ≡ [] → seals ≡ []
           → ◌≡◌ {A = Model} (record { config = c; byzantine = xs; nodes = nodes; network = network; seals = seals; told = tt; outcomes = later }) (first_world core_setting later d ys)
       world_made c d xs ys nodes network seals later config liars first none unsealed = rw (config, liars, first, none, unsealed) refl
 

@@ -7,11 +7,12 @@ use Rattle.std.proofs.lemmas.Bool.Decides.{nat_tests}
 use Rattle.std.proofs.lemmas.List.{append-nil, length-map, length-set, take-append-le, take_all, take_more_set}
 use Rattle.std.proofs.lemmas.List.Folds.{list_any-append}
 use Rattle.std.proofs.lemmas.Option.{cond_some, same_Some, slice_get_within}
-use Rattle.node_model.specs.Restarts.{Returned}
-use Rattle.node_model.specs.Steps.{Event}
+use Rattle.node_model.specs.Cores.{Core}
+use Rattle.node_model.specs.declared.event.Event.{Event}
 use Rattle.script_play.specs.declared.ending.Ending.{Ending}
 use Rattle.script_play.specs.Turns.{Turn, Turned}
-use Rattle.world_model.specs.Cores.{core_setting}
+use Rattle.node_model.specs.Entries.{facts_of, posts_of}
+use Rattle.world_model.specs.Cores.{core_keeping, core_setting}
 use Rattle.world_model.specs.Texts.{fact_text, flush_text}
 use Rattle.world_model.specs.Turns.{delivery, delivery_to, event_by, event_goes, event_turn, first_outcome, flush_turn, flushes, goes_on, says, with_later, within_limit}
 use Rattle.world_model.specs.Worlds as worlds
@@ -59,10 +60,10 @@ position_none p xs i none past =
 
 -- WHAT A DELIVERY LEAVES: the entry has come, what was sent stands behind, and the receiver is another
 
-pub record Leaves (k : ℕ) (e : worlds.Entry) (node : worlds.Node Returned) (old next : Model) : Type 0 where
+pub record Leaves (k : ℕ) (e : worlds.Entry) (node : worlds.Node Core) (old next : Model) : Type 0 where
   pub more : List worlds.Entry
   pub network : next.network ≡ set old.network k (record e { came = true }) ++ more
-  pub left : worlds.Node Returned
+  pub left : worlds.Node Core
   pub nodes : next.nodes ≡ worlds.with_node left old.nodes
   pub same : left.id ≡ node.id
 
@@ -77,60 +78,67 @@ within_limit_next : (number : ℕ) (blocks : List ℕ) (w next : Model) → (wit
 within_limit_next number blocks w next e =
     same_Ok w next (limited_next (ltb 1000000 (length w.network)) _ (says blocks w) next e (λ stopped. cc))
 
-event_goes_leaves : (number k : ℕ) (e : worlds.Entry) (w v next : Model) (node : worlds.Node Returned) (event : Event) → v.nodes ≡ w.nodes → v.network ≡ set w.network k (record e { came = true })
+event_goes_leaves : (number k : ℕ) (e : worlds.Entry) (w v next : Model) (node : worlds.Node Core) (event : Event)
+    → v.nodes ≡ w.nodes → v.network ≡ set w.network k (record e { came = true })
     → (event_goes core_setting number v node event).next ≡ Ok next → Leaves k e node w next
 event_goes_leaves number k e w v next node event nodes network is =
-    let m = worlds.making core_setting v node event in
-    let left = sym (within_limit_next number (flat_map (fact_text number) m.facts) (worlds.world_after core_setting v node m) next is) in
+    let made = worlds.making core_setting v node event in
+    let blocks = flat_map (fact_text number) (facts_of made) in
+    let sends = worlds.sent_by node.id (posts_of made) in
+    let after = worlds.node_after core_keeping node made in
+    let left = sym (within_limit_next number blocks (worlds.world_after core_setting v node made) next is) in
     record {
-      more = worlds.sent_by node.id m.posts;
-      network = ap (λ (x : Model). x.network) left ∙ ap (λ (es : List worlds.Entry). es ++ worlds.sent_by node.id m.posts) network;
-      left = worlds.node_after node m;
-      nodes = ap (λ (x : Model). x.nodes) left ∙ ap (worlds.with_node (worlds.node_after node m)) nodes;
+      more = sends;
+      network = ap (λ (x : Model). x.network) left ∙ ap (λ (es : List worlds.Entry). es ++ sends) network;
+      left = after;
+      nodes = ap (λ (x : Model). x.nodes) left ∙ ap (worlds.with_node after) nodes;
       same = refl;
     }
 
-event_by_leaves : (number k : ℕ) (e : worlds.Entry) (w v next : Model) (node : worlds.Node Returned) (event : Event) (outcome : Outcome) → v.nodes ≡ w.nodes → v.network ≡ set w.network k (record e { came = true })
+event_by_leaves : (number k : ℕ) (e : worlds.Entry) (w v next : Model) (node : worlds.Node Core) (event : Event)
+    (outcome : Outcome) → v.nodes ≡ w.nodes → v.network ≡ set w.network k (record e { came = true })
     → (event_by core_setting number v node event outcome).next ≡ Ok next → Leaves k e node w next
-event_by_leaves number k e w v next node event GoesOn nodes network is = event_goes_leaves number k e w v next node event nodes network is
-event_by_leaves number k e w v next node event (Stops kept signed) nodes network is =
-    let stopped = worlds.world_stopped_in core_setting v node event kept signed in
-    let left = sym (same_Ok stopped next is) in
+event_by_leaves number k e w v next node event GoesOn nodes network is =
+    event_goes_leaves number k e w v next node event nodes network is
+event_by_leaves number k e w v next node event (Stops cut) nodes network is =
+    let after = worlds.node_stopped core_keeping node (take cut (worlds.making core_setting v node event)) in
+    let left = sym (same_Ok (worlds.world_stopped_in core_setting v node event cut) next is) in
     record {
       more = [];
-      network = ap (λ (x : Model). x.network) left ∙ network ∙ sym (append-nil (set w.network k (record e { came = true })));
-      left = worlds.node_stopped core_setting node (take kept (worlds.deeds_in core_setting v node event));
-      nodes = ap (λ (x : Model). x.nodes) left ∙ ap (worlds.with_node (worlds.node_stopped core_setting node (take kept (worlds.deeds_in core_setting v node event)))) nodes;
+      network = ap (λ (x : Model). x.network) left ∙ network
+          ∙ sym (append-nil (set w.network k (record e { came = true })));
+      left = after;
+      nodes = ap (λ (x : Model). x.nodes) left ∙ ap (worlds.with_node after) nodes;
       same = refl;
     }
 
-event_chosen : (number k : ℕ) (e : worlds.Entry) (w next : Model) (node : worlds.Node Returned) (b : Bool)
+event_chosen : (number k : ℕ) (e : worlds.Entry) (w next : Model) (node : worlds.Node Core) (b : Bool)
     → (cond b (event_by core_setting number (with_later (worlds.marked k e w)) node (worlds.letter_from e) (first_outcome w.outcomes)) (event_goes core_setting number (worlds.marked k e w) node (worlds.letter_from e))).next ≡ Ok next
     → Leaves k e node w next
 event_chosen number k e w next node true is = event_by_leaves number k e w (with_later (worlds.marked k e w)) next node (worlds.letter_from e) (first_outcome w.outcomes) refl refl is
 event_chosen number k e w next node false is = event_goes_leaves number k e w (worlds.marked k e w) next node (worlds.letter_from e) refl refl is
 
-event_leaves : (number k : ℕ) (e : worlds.Entry) (w next : Model) (node : worlds.Node Returned) → (event_turn core_setting number (worlds.marked k e w) node (worlds.letter_from e)).next ≡ Ok next → Leaves k e node w next
+event_leaves : (number k : ℕ) (e : worlds.Entry) (w next : Model) (node : worlds.Node Core) → (event_turn core_setting number (worlds.marked k e w) node (worlds.letter_from e)).next ≡ Ok next → Leaves k e node w next
 unfolding event_turn
 event_leaves number k e w next node is = event_chosen number k e w next node node.armed is
 
 -- an entry that waits has a receiver that runs
-abbrev pub LeavesSome : ℕ → worlds.Entry → Option (worlds.Node Returned) → Model → Model → Type 0
-LeavesSome k e o old next = (node : worlds.Node Returned) × (o ≡ Some node) × Leaves k e node old next
+abbrev pub LeavesSome : ℕ → worlds.Entry → Option (worlds.Node Core) → Model → Model → Type 0
+LeavesSome k e o old next = (node : worlds.Node Core) × (o ≡ Some node) × Leaves k e node old next
 
-delivery_leaves : (number k : ℕ) (e : worlds.Entry) (w next : Model) (o : Option (worlds.Node Returned)) → is_some o ≡ true → (delivery_to core_setting number k e w o).next ≡ Ok next → LeavesSome k e o w next
+delivery_leaves : (number k : ℕ) (e : worlds.Entry) (w next : Model) (o : Option (worlds.Node Core)) → is_some o ≡ true → (delivery_to core_setting number k e w o).next ≡ Ok next → LeavesSome k e o w next
 delivery_leaves number k e w next None some is = absurd (cc)
 delivery_leaves number k e w next (Some node) some is = (node, refl, event_leaves number k e w next node is)
 
 -- WHO RUNS after it ran before
 
-abbrev pub node_runs : ℕ → List (worlds.Node Returned) → Bool
+abbrev pub node_runs : ℕ → List (worlds.Node Core) → Bool
 node_runs id nodes = is_some (worlds.running_at id nodes)
 
-runs_first : (id : ℕ) (node : worlds.Node Returned) (nodes : List (worlds.Node Returned)) → node_runs id (node ∷ nodes) ≡ cond (eqb node.id id) node.runs (node_runs id nodes)
+runs_first : (id : ℕ) (node : worlds.Node Core) (nodes : List (worlds.Node Core)) → node_runs id (node ∷ nodes) ≡ cond (eqb node.id id) node.runs (node_runs id nodes)
 runs_first id node nodes = runs_choice (eqb node.id id) node.runs node (worlds.node_at id nodes) refl
 
-replaced_runs : (new x : worlds.Node Returned) (xs : List (worlds.Node Returned)) (b : Bool) → eqb x.id new.id ≡ b → node_runs new.id (x ∷ xs) ≡ true
+replaced_runs : (new x : worlds.Node Core) (xs : List (worlds.Node Core)) (b : Bool) → eqb x.id new.id ≡ b → node_runs new.id (x ∷ xs) ≡ true
     → (node_runs new.id xs ≡ true → (id : ℕ) → node_runs id (worlds.with_node new xs) ≡ true → node_runs id xs ≡ true)
     → (id : ℕ) → node_runs id (cond b (new ∷ xs) (x ∷ worlds.with_node new xs)) ≡ true → node_runs id (x ∷ xs) ≡ true
 replaced_runs new x xs true is runs rest id then =
@@ -143,20 +151,20 @@ replaced_runs new x xs false is runs rest id then =
     runs_first id x xs
     ∙ choice_rest (eqb x.id id) x.runs (node_runs id xs) (node_runs id (worlds.with_node new xs)) (rest behind id) (sym (runs_first id x (worlds.with_node new xs)) ∙ then)
 
-with_node_runs : (new : worlds.Node Returned) (nodes : List (worlds.Node Returned)) → node_runs new.id nodes ≡ true → (id : ℕ) → node_runs id (worlds.with_node new nodes) ≡ true → node_runs id nodes ≡ true
+with_node_runs : (new : worlds.Node Core) (nodes : List (worlds.Node Core)) → node_runs new.id nodes ≡ true → (id : ℕ) → node_runs id (worlds.with_node new nodes) ≡ true → node_runs id nodes ≡ true
 with_node_runs new [] runs id then = then
 with_node_runs new (x ∷ xs) runs id then = replaced_runs new x xs (eqb x.id new.id) refl runs (with_node_runs new xs) id then
 
-node_id_in : (id : ℕ) (x node : worlds.Node Returned) (found : Option (worlds.Node Returned)) (b : Bool) → eqb x.id id ≡ b → worlds.running (cond b (Some x) found) ≡ Some node
+node_id_in : (id : ℕ) (x node : worlds.Node Core) (found : Option (worlds.Node Core)) (b : Bool) → eqb x.id id ≡ b → worlds.running (cond b (Some x) found) ≡ Some node
     → (worlds.running found ≡ Some node → node.id ≡ id) → node.id ≡ id
-node_id_in id x node found true is h rest = ap (λ (n : worlds.Node Returned). n.id) (sym (cond_some x.runs x node h).1) ∙ eqb-true x.id id is
+node_id_in id x node found true is h rest = ap (λ (n : worlds.Node Core). n.id) (sym (cond_some x.runs x node h).1) ∙ eqb-true x.id id is
 node_id_in id x node found false is h rest = rest h
 
-node_id : (id : ℕ) (nodes : List (worlds.Node Returned)) (node : worlds.Node Returned) → worlds.running_at id nodes ≡ Some node → node.id ≡ id
+node_id : (id : ℕ) (nodes : List (worlds.Node Core)) (node : worlds.Node Core) → worlds.running_at id nodes ≡ Some node → node.id ≡ id
 node_id id [] node h = absurd (cc)
 node_id id (x ∷ xs) node h = node_id_in id x node (worlds.node_at id xs) (eqb x.id id) refl h (node_id id xs node)
 
-has_receiver : (nodes : List (worlds.Node Returned)) (only : Option (List ℕ)) (e : worlds.Entry) → worlds.is_waiting nodes only e ≡ true → node_runs e.to nodes ≡ true
+has_receiver : (nodes : List (worlds.Node Core)) (only : Option (List ℕ)) (e : worlds.Entry) → worlds.is_waiting nodes only e ≡ true → node_runs e.to nodes ≡ true
 has_receiver nodes only e waits = (and_true (not e.came && worlds.is_named only e) (node_runs e.to nodes) waits).1
 
 -- a delivery leaves its entry and those before it so that none of them waits, also where its receiver was stopped
@@ -172,7 +180,7 @@ none_waits_on number k only e w next before after within none waits turned =
     let left = found.2 in
     let named = left.same ∙ node_id e.to w.nodes found.0 found.1 in
     let ran : node_runs left.left.id w.nodes ≡ true = ap (λ (i : ℕ). node_runs i w.nodes) named ∙ runs in
-    let on = λ (id : ℕ) (then : node_runs id next.nodes ≡ true). with_node_runs left.left w.nodes ran id (ap (λ (ns : List (worlds.Node Returned)). node_runs id ns) (sym left.nodes) ∙ then) in
+    let on = λ (id : ℕ) (then : node_runs id next.nodes ≡ true). with_node_runs left.left w.nodes ran id (ap (λ (ns : List (worlds.Node Core)). node_runs id ns) (sym left.nodes) ∙ then) in
     let front : take (k + 1) next.network ≡ take k w.network ++ came ∷ [] =
     ap (take (k + 1)) left.network ∙ take-append-le (k + 1) (set w.network k came) left.more (omega (arith, length-set w.network k came)) ∙ take_more_set w.network k came within in
     let old : list_any p (take k w.network ++ came ∷ []) ≡ false = list_any-append p (take k w.network) (came ∷ []) ∙ rw none refl in

@@ -9,9 +9,8 @@ use Rattle.std.proofs.lemmas.Option.{same_Some}
 use Rattle.bft_wire.specs.Reading.{message_in}
 use Rattle.bft_wire.specs.Spelling.{message_text}
 use Rattle.bft_wire.specs.declared.message.Message.{Message}
-use Rattle.block_ledger.specs.Ledgers.{blocks_of}
 use Rattle.view_model.specs.Letters.{PrePrepare}
-use Rattle.node_model.specs.Restarts.{Returned}
+use Rattle.node_model.specs.Cores.{Core}
 use Rattle.ord_types.specs.Members.{is_in}
 use Rattle.ord_types.specs.declared.values.Place.{Place}
 use Rattle.safety_model.specs.Blocks.{Config, Request}
@@ -27,7 +26,7 @@ use Rattle.world_model.specs.Texts.{lied_text}
 use Rattle.world_model.specs.Cores.{core_setting}
 use Rattle.world_model.specs.Worlds as worlds
 use Rattle.bft_node.specs.Lodgings.{Lodging}
-use Rattle.bft_node.specs.Running.{place_of}
+use Rattle.bft_node.specs.Running.{chain_of, place_of}
 use Rattle.bft_node.specs.declared.lodged.Lodged.{Lodged}
 use Rattle.bft_node.specs.declared.member.Node.{Node}
 use Rattle.world_run.specs.Entries.{entry_of}
@@ -98,12 +97,12 @@ pub node_there : (o : Option Lodged) (node : Node) → option_map (λ (l : Lodge
 node_there None node is = absurd (cc)
 node_there (Some l) node is = (l, refl, same_Some l.node node is)
 
-ledger_there : (o : Option Lodged) (node : Node) → option_map (λ (l : Lodged). l.node) o ≡ Some node → ledger_in o ≡ blocks_of node.running.store.ledger
+ledger_there : (o : Option Lodged) (node : Node) → option_map (λ (l : Lodged). l.node) o ≡ Some node → ledger_in o ≡ chain_of node.running
 ledger_there o node is =
     let found = node_there o node is in
     rw (found.1, found.2) refl
 
-pub state_there : (c : Config) (id : ℕ) (o : Option Lodged) (node : Node) → option_map (λ (l : Lodged). l.node) o ≡ Some node → (state_in c id o).core.place ≡ place_of node.running
+pub state_there : (c : Config) (id : ℕ) (o : Option Lodged) (node : Node) → option_map (λ (l : Lodged). l.node) o ≡ Some node → (state_in c id o).place ≡ place_of node.running
 state_there c id o node is =
     let found = node_there o node is in
     rw (found.1, found.2) refl
@@ -123,12 +122,12 @@ longest_alone c at (m ∷ members) member some is all behind_none =
     let none : IsLongest c at members None = subst (λ (rest : List Member). IsLongest c at rest None) (behind_is m members) behind_none in
     (m, ap (λ (x : Member). x.id) (sym is), all.0, rw none refl)
 
-chosen_first : (a b : ℕ) (first other : worlds.Node Returned) → a ≡ length first.ledger → b ≡ length other.ledger → b ≤ a → longer first (Some other) ≡ first
+chosen_first : (a b : ℕ) (first other : worlds.Node Core) → a ≡ length first.ledger → b ≡ length other.ledger → b ≤ a → longer first (Some other) ≡ first
 chosen_first a b first other one two less =
     let test : nat_lt (length first.ledger) (length other.ledger) ≡ false = grind (arith, nat_tests) in
     rw test refl
 
-chosen_other : (a b : ℕ) (first other : worlds.Node Returned) → a ≡ length first.ledger → b ≡ length other.ledger → a < b → longer first (Some other) ≡ other
+chosen_other : (a b : ℕ) (first other : worlds.Node Core) → a ≡ length first.ledger → b ≡ length other.ledger → a < b → longer first (Some other) ≡ other
 chosen_other a b first other one two less =
     let test : nat_lt (length first.ledger) (length other.ledger) ≡ true = grind (arith, nat_tests) in
     rw test refl
@@ -136,7 +135,7 @@ chosen_other a b first other one two less =
 -- the first one has at least as long a ledger as the longest of those behind it
 pub longest_first : (c : Config) (at : Lodging) (members : List Member) (member : Member) (other a b : ℕ) (one two : Node) → 1 ≤ length members → member ≡ get_or members 0 member → AllByRecursion (IsMemberAt at) members
     → IsLongest c at (behind members) (Some other) → option_map (λ (l : Lodged). l.node) (at member.id) ≡ Some one → option_map (λ (l : Lodged). l.node) (at other) ≡ Some two
-    → a ≡ length (blocks_of one.running.store.ledger) → b ≡ length (blocks_of two.running.store.ledger) → b ≤ a → IsLongest c at members (Some member.id)
+    → a ≡ length (chain_of one.running) → b ≡ length (chain_of two.running) → b ≤ a → IsLongest c at members (Some member.id)
 longest_first c at [] member other a b one two some is all behind here there first second less = absurd (omega arith)
 longest_first c at (m ∷ members) member other a b one two some is all so here there first second less =
     let behind : IsLongest c at members (Some other) = subst (λ (rest : List Member). IsLongest c at rest (Some other)) (behind_is m members) so in
@@ -148,7 +147,7 @@ longest_first c at (m ∷ members) member other a b one two some is all so here 
 -- or it has not
 pub longest_other : (c : Config) (at : Lodging) (members : List Member) (member : Member) (other a b : ℕ) (one two : Node) → 1 ≤ length members → member ≡ get_or members 0 member
     → IsLongest c at (behind members) (Some other) → option_map (λ (l : Lodged). l.node) (at member.id) ≡ Some one → option_map (λ (l : Lodged). l.node) (at other) ≡ Some two
-    → a ≡ length (blocks_of one.running.store.ledger) → b ≡ length (blocks_of two.running.store.ledger) → a < b → IsLongest c at members (Some other)
+    → a ≡ length (chain_of one.running) → b ≡ length (chain_of two.running) → a < b → IsLongest c at members (Some other)
 longest_other c at [] member other a b one two some is behind here there first second less = absurd (omega arith)
 longest_other c at (m ∷ members) member other a b one two some is so here there first second less =
     let behind : IsLongest c at members (Some other) = subst (λ (rest : List Member). IsLongest c at rest (Some other)) (behind_is m members) so in
@@ -162,15 +161,15 @@ pub longest_is_some : (c : Config) (at : Lodging) (members : List Member) (id : 
 longest_is_some c at members id is = rw (← is.1, is.2.1) refl
 
 -- and it is one of the members' nodes
-longer_is : (first : worlds.Node Returned) (o : Option (worlds.Node Returned)) (P : worlds.Node Returned → Type 0) → P first → ((other : worlds.Node Returned) → o ≡ Some other → P other) → P (longer first o)
+longer_is : (first : worlds.Node Core) (o : Option (worlds.Node Core)) (P : worlds.Node Core → Type 0) → P first → ((other : worlds.Node Core) → o ≡ Some other → P other) → P (longer first o)
 longer_is first None P one more = one
 longer_is first (Some other) P one more =
     elim (nat_lt (length first.ledger) (length other.ledger)) as (λ b. P (if b then other else first)) [ true ↦ more other refl | false ↦ one ]
 
-abbrev pub IsSeatedAt : Config → Accepts → Lodging → worlds.Node Returned → Type 0
+abbrev pub IsSeatedAt : Config → Accepts → Lodging → worlds.Node Core → Type 0
 IsSeatedAt c accepts at node = (l : Lodged) × (at node.id ≡ Some l) × IsSeated c accepts node.id l
 
-pub longest_seated : (c : Config) (accepts : Accepts) (at : Lodging) (members : List Member) (node : worlds.Node Returned) → AllByRecursion (IsMember c accepts at) members
+pub longest_seated : (c : Config) (accepts : Accepts) (at : Lodging) (members : List Member) (node : worlds.Node Core) → AllByRecursion (IsMember c accepts at) members
     → longest (map (node_of c at) members) ≡ Some node → IsSeatedAt c accepts at node
 longest_seated c accepts at [] node all is = absurd (cc)
 longest_seated c accepts at (m ∷ members) node all is =
@@ -189,22 +188,22 @@ place_seated c accepts at members id node all is there =
     subst (λ (n : Node). IsPlace (place_of n.running)) found.2 kept.place
 
 pub longest_place : (c : Config) (at : Lodging) (members : List Member) (id v : ℕ) (r : Request) (node : Node) → IsLongest c at members (Some id) → option_map (λ (l : Lodged). l.node) (at id) ≡ Some node
-    → option_map (λ (n : worlds.Node Returned). message_text (proposal_of n.state.core.place v r)) (longest (map (node_of c at) members)) ≡ Some (message_text (proposal_of (place_of node.running) v r))
+    → option_map (λ (n : worlds.Node Core). message_text (proposal_of n.state.place v r)) (longest (map (node_of c at) members)) ≡ Some (message_text (proposal_of (place_of node.running) v r))
 longest_place c at members id v r node is there =
     let here = ap (λ (i : ℕ). option_map (λ (l : Lodged). l.node) (at i)) is.1 ∙ there in
     rw is.3 (ap (λ (place : Place). Some (message_text (proposal_of place v r))) (state_there c is.0.id (at is.0.id) node here))
 
 -- PROPOSING
 
-pub proposed_on : (number : ℕ) (w : Model) (from to v : ℕ) (r : Request) (bytes : List ℕ) (o : Option (worlds.Node Returned))
-    → Some bytes ≡ option_map (λ (node : worlds.Node Returned). message_text (proposal_of node.state.core.place v r)) o
+pub proposed_on : (number : ℕ) (w : Model) (from to v : ℕ) (r : Request) (bytes : List ℕ) (o : Option (worlds.Node Core))
+    → Some bytes ≡ option_map (λ (node : worlds.Node Core). message_text (proposal_of node.state.place v r)) o
     → propose_on core_setting number w from to v r o ≡ sends number (codes "byz-propose") w from to bytes
 proposed_on number w from to v r bytes None is = absurd (cc)
 proposed_on number w from to v r bytes (Some node) is =
-    ap (sends number (codes "byz-propose") w from to) (sym (same_Some bytes (message_text (proposal_of node.state.core.place v r)) is))
+    ap (sends number (codes "byz-propose") w from to) (sym (same_Some bytes (message_text (proposal_of node.state.place v r)) is))
 
-pub proposed_nowhere : (number : ℕ) (w : Model) (from to v : ℕ) (r : Request) (o : Option (worlds.Node Returned))
-    → None ≡ option_map (λ (node : worlds.Node Returned). message_text (proposal_of node.state.core.place v r)) o
+pub proposed_nowhere : (number : ℕ) (w : Model) (from to v : ℕ) (r : Request) (o : Option (worlds.Node Core))
+    → None ≡ option_map (λ (node : worlds.Node Core). message_text (proposal_of node.state.place v r)) o
     → propose_on core_setting number w from to v r o ≡ refuses number (codes "no core") w
 proposed_nowhere number w from to v r None is = refl
 proposed_nowhere number w from to v r (Some node) is = absurd (cc)

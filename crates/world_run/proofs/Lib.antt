@@ -1,6 +1,5 @@
 mod CommandLemmas
 mod CrashLemmas
-mod DeedLemmas
 mod DeliverLemmas
 mod EventLemmas
 mod FirstLemmas
@@ -15,6 +14,7 @@ mod NodeLemmas
 mod OfferLemmas
 mod PoolLemmas
 mod RangeLemmas
+mod ReadLemmas
 mod RunnerLemmas
 mod SaysLemmas
 mod SealLemmas

@@ -11,7 +11,7 @@ use Rattle.std.proofs.lemmas.List.Kept.{AllPairs-from_increasing}
 use Rattle.std.proofs.lemmas.List.Quantifiers.{position-Some}
 use Rattle.std.proofs.lemmas.Option.{cond_some, get_or_from_slice_get, same_Some, slice_get-map, slice_get_cases, slice_get_past, slice_get_read, slice_get_within}
 use Rattle.safety_model.specs.Blocks.{Config}
-use Rattle.node_model.specs.Restarts.{Returned}
+use Rattle.node_model.specs.Cores.{Core}
 use Rattle.world_model.specs.Worlds as worlds
 use Rattle.bft_node.specs.Lodgings.{Becomes, Lodging}
 use Rattle.bft_node.specs.declared.lodged.Lodged.{Lodged}
@@ -156,21 +156,21 @@ position_map f p [] = refl
 position_map f p (x ∷ xs) = ap (λ (n : ℕ). cond (not (p (f x))) (1 + n) 0) (position_map f p xs)
 
 -- the head is replaced, or the rest
-with_node_here : (new x : worlds.Node Returned) (xs : List (worlds.Node Returned)) (i : ℕ) (b : Bool)
-    → (position_or_len (λ (node : worlds.Node Returned). eqb node.id new.id) xs < length xs → worlds.with_node new xs ≡ set xs (position_or_len (λ (node : worlds.Node Returned). eqb node.id new.id) xs) new)
-    → i ≡ cond (not b) (1 + position_or_len (λ (node : worlds.Node Returned). eqb node.id new.id) xs) 0 → i < length (x ∷ xs)
+with_node_here : (new x : worlds.Node Core) (xs : List (worlds.Node Core)) (i : ℕ) (b : Bool)
+    → (position_or_len (λ (node : worlds.Node Core). eqb node.id new.id) xs < length xs → worlds.with_node new xs ≡ set xs (position_or_len (λ (node : worlds.Node Core). eqb node.id new.id) xs) new)
+    → i ≡ cond (not b) (1 + position_or_len (λ (node : worlds.Node Core). eqb node.id new.id) xs) 0 → i < length (x ∷ xs)
     → cond b (new ∷ xs) (x ∷ worlds.with_node new xs) ≡ set (x ∷ xs) i new
 with_node_here new x xs i true rest e l = rw e refl
 with_node_here new x xs i false rest e l =
-    let n = position_or_len (λ (node : worlds.Node Returned). eqb node.id new.id) xs in
+    let n = position_or_len (λ (node : worlds.Node Core). eqb node.id new.id) xs in
     let next : i ≡ suc n = omega arith in
-    rw next (ap (λ (ns : List (worlds.Node Returned)). x ∷ ns) (rest (omega arith)))
+    rw next (ap (λ (ns : List (worlds.Node Core)). x ∷ ns) (rest (omega arith)))
 
-with_node_from : (new : worlds.Node Returned) (nodes : List (worlds.Node Returned)) (i : ℕ) → i ≡ position_or_len (λ (node : worlds.Node Returned). eqb node.id new.id) nodes → i < length nodes
+with_node_from : (new : worlds.Node Core) (nodes : List (worlds.Node Core)) (i : ℕ) → i ≡ position_or_len (λ (node : worlds.Node Core). eqb node.id new.id) nodes → i < length nodes
     → worlds.with_node new nodes ≡ set nodes i new
 with_node_from new [] i e l = absurd (omega arith)
 with_node_from new (x ∷ xs) i e l =
-    with_node_here new x xs i (eqb x.id new.id) (with_node_from new xs (position_or_len (λ (node : worlds.Node Returned). eqb node.id new.id) xs) refl) e l
+    with_node_here new x xs i (eqb x.id new.id) (with_node_from new xs (position_or_len (λ (node : worlds.Node Core). eqb node.id new.id) xs) refl) e l
 
 -- what a node is rests on what stands under its id
 pub node_alike : (c : Config) (before after : Lodging) (member : Member) → after member.id ≡ before member.id → node_of c before member ≡ node_of c after member
@@ -181,8 +181,8 @@ pub with_node_at_place : (c : Config) (before after : Lodging) (members : List M
     → ((j : ℕ) (member : Member) → slice_get members j ≡ Some member → j ≢ place → node_of c before member ≡ node_of c after member)
     → worlds.with_node (node_of c after new) (map (node_of c before) members) ≡ map (node_of c after) (set members place new)
 with_node_at_place c before after members place new h same =
-    let at : place ≡ position_or_len (λ (node : worlds.Node Returned). eqb node.id new.id) (map (node_of c before) members) =
-    sym ((position_map (node_of c before) (λ (node : worlds.Node Returned). eqb node.id new.id) members) ∙ (cond_some _ _ _ h).1) in
+    let at : place ≡ position_or_len (λ (node : worlds.Node Core). eqb node.id new.id) (map (node_of c before) members) =
+    sym ((position_map (node_of c before) (λ (node : worlds.Node Core). eqb node.id new.id) members) ∙ (cond_some _ _ _ h).1) in
     with_node_from (node_of c after new) (map (node_of c before) members) place at (omega (arith, place_within new.id members place h, length-map members (node_of c before)))
     ∙ set_moved (node_of c before) (node_of c after) members place new same
 
@@ -291,6 +291,6 @@ pub running_absent : (c : Config) (at : Lodging) (id : ℕ) (members : List Memb
 running_absent c at id members h = rw (node_at_none c at id members (where_absent id members h)) refl
 
 -- no node that runs
-pub none_running : (o : Option (worlds.Node Returned)) → is_some o ≡ false → o ≡ None
+pub none_running : (o : Option (worlds.Node Core)) → is_some o ≡ false → o ≡ None
 none_running None is = refl
 none_running (Some node) is = absurd (cc)

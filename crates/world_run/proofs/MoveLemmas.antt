@@ -15,8 +15,9 @@ use Rattle.signer_edge.specs.Accepts.{Accepts}
 use Rattle.signer_edge.specs.Signing.{KeepsAccepted}
 use Rattle.block_ledger.proofs.Linking.{chain_stays}
 use Rattle.world_model.specs.Worlds.{Outcome}
-use Rattle.bft_node.specs.Lodgings.{Becomes, Lodging, StaysAlike, accepts_of}
-use Rattle.bft_node.specs.Stores.{held_of}
+use Rattle.bft_node.specs.Lodgings.{Becomes, HoldsIn, Lodging, StaysAlike, accepts_of}
+use Rattle.bft_node.specs.Running.{chain_of}
+use Rattle.bft_node.specs.Stores.{config_of}
 use Rattle.bft_node.specs.declared.lodged.Lodged.{Lodged}
 use Rattle.world_run.specs.Going.{ByMoves, Plays, Says}
 use Rattle.world_run.specs.Mapped.{Model, world_of}
@@ -109,15 +110,24 @@ plays_said at next old new turn ending keeps alike says =
     by_none (Unit {0}) at next old new (λ w to. Turned (turn w) (string_bytes old.outside.text) (string_bytes new.outside.text) to ending) alike keeps.config keeps.armed
     (λ later. subst (λ (w : Model). Turned (turn (world_of at old later)) (string_bytes old.outside.text) (string_bytes new.outside.text) w ending) (sym (world_alike at next new later alike)) (says at later))
 
-pub seated_kept : (c : Config) (old new : Accepts) (id : ℕ) (l : Lodged) → KeepsAccepted old new → IsSeated c old id l → IsSeated c new id l
+-- what a node holds it goes on to hold where more is accepted
+holds_on : (old new : Accepts) (l : Lodged) → KeepsAccepted old new → HoldsIn old l → HoldsIn new l
+holds_on old new l keeps holds =
+    let r = l.node.running in
+    record {
+      chain = chain_stays old new (config_of r.store) (chain_of r) keeps holds.chain;
+      stands = holds.stands;
+      kept = holds.kept;
+    }
+
+pub seated_kept : (c : Config) (old new : Accepts) (id : ℕ) (l : Lodged) → KeepsAccepted old new
+    → IsSeated c old id l → IsSeated c new id l
 seated_kept c old new id l keeps seated =
     record {
       runs = seated.runs;
       named = seated.named;
       config = seated.config;
-      chain = chain_stays old new c (held_of l.node.running.store).blocks keeps seated.chain;
-      stands = seated.stands;
-      kept = seated.kept;
+      holds = holds_on old new l keeps seated.holds;
     }
 
 pub member_kept : (c : Config) (old new : Accepts) (at : Lodging) (member moved : Member) → KeepsAccepted old new → moved.id ≡ member.id → IsMember c old at member → IsMember c new at moved

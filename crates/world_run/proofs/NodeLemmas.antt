@@ -8,11 +8,10 @@ use Rattle.ord_types.specs.Genesis.{IsGenesisConfig}
 use Rattle.safety_model.specs.Blocks.{Config}
 use Rattle.signer_edge.specs.Seals.{Seat}
 use Rattle.signer_edge.specs.Signing.{KeepsAccepted}
-use Rattle.node_model.specs.Restarts.{Returned}
+use Rattle.node_model.specs.Cores.{Core}
 use Rattle.world_model.specs.Worlds as worlds
 use Rattle.bft_node.specs.Lodgings.{Becomes, Lodging, accepts_of}
-use Rattle.bft_node.specs.Running.{state_of}
-use Rattle.bft_node.specs.Stores.{held_of}
+use Rattle.bft_node.specs.Running.{chain_of, state_of}
 use Rattle.bft_node.specs.declared.lodged.Lodged.{Lodged}
 use Rattle.world_run.specs.Members.{IsMember, IsSeated, node_of}
 use Rattle.world_run.specs.Sound.{IsSound, NoneArmed}
@@ -35,13 +34,13 @@ all_set P (y ∷ ys) (suc i) x all is = (all.0, all_set P ys i x all.1 is)
 
 -- THE NODE OF A MEMBER
 
-abbrev pub node_with : Member → Lodged → worlds.Node Returned
+abbrev pub node_with : Member → Lodged → worlds.Node Core
 node_with member l =
     record {
       id = member.id;
       state = state_of l.node.running;
       pool = member.pool.items;
-      ledger = (held_of l.node.running.store).blocks;
+      ledger = chain_of l.node.running;
       runs = member.runs;
       armed = member.armed;
     }

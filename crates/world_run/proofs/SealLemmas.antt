@@ -9,9 +9,8 @@ use Rattle.signer_edge.proofs.SealFacts.{is_sealed-grown}
 use Rattle.world_model.specs.Worlds.{keys_of, seals_of}
 use Rattle.bft_node.specs.Lodgings.{IsStepOf, accepts_of}
 use Rattle.bft_node.specs.NodeSteps.{TakesStep}
-use Rattle.bft_node.specs.Running.{event_of}
 use Rattle.bft_node.specs.Signings.{AreGiven, EndsAt, Grows, KeysFit, Signing, keys_after, statements_in}
-use Rattle.bft_node.specs.declared.live.Event.{Event}
+use Rattle.node_model.specs.declared.event.Event.{Event}
 use Rattle.bft_node.specs.declared.live.Out.{Out}
 use Rattle.bft_node.specs.declared.lodged.Lodged.{Lodged}
 use Rattle.bft_node.specs.declared.node_fault.NodeFault.{NodeFault}
@@ -73,7 +72,7 @@ seat_keeps seat statements t sig h = is_sealed-grown seat.seals (seals_of seat.i
 pub record Signed (old new : Lodged) (event : Event) (before after : Seat) (result : Result Out NodeFault) : Type 0 where
   pub statements : List (List ℕ)
   pub seat : after ≡ seat_after before statements
-  pub takes : TakesStep (keys_of before.seals before.id) old.node.running new.node.running (event_of event) statements (accepts_of before) (accepts_of after) result true (states old.disk.history) (states new.disk.history)
+  pub takes : TakesStep (keys_of before.seals before.id) old.node.running new.node.running event statements (accepts_of before) (accepts_of after) result true (states old.disk.history) (states new.disk.history)
 
 pub signed_in : (old new : Lodged) (event : Event) (before after : Seat) (result : Result Out NodeFault) → old.node.closed ≡ false → IsStepOf old new event before after result → Signed old new event before after result
 signed_in old new event before after result runs is =
@@ -83,6 +82,6 @@ signed_in old new event before after result runs is =
       statements = statements_in signs.signings;
       seat = same ∙ keys_after_given before signs.signings signs.given;
       takes =
-          subst (λ (k : Seat). TakesStep (keys_of before.seals before.id) old.node.running new.node.running (event_of event) (statements_in signs.signings) (accepts_of before) (accepts_of k) result true (states old.disk.history) (states new.disk.history)) (sym same)
+          subst (λ (k : Seat). TakesStep (keys_of before.seals before.id) old.node.running new.node.running event (statements_in signs.signings) (accepts_of before) (accepts_of k) result true (states old.disk.history) (states new.disk.history)) (sym same)
           (signs.what (keys_of before.seals before.id) (keys_fit before signs.signings signs.given) (grows before signs.signings signs.given));
     }

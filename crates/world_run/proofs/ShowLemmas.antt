@@ -5,8 +5,7 @@ use Rattle.std.specs.List.{flat_map}
 use Rattle.std.proofs.lemmas.List.{append_assoc, flat_map_more, length-map, take_all, take_more}
 use Rattle.std.specs.Option.{option_map}
 use Rattle.ord_types.specs.declared.values.Proof.{Proof}
-use Rattle.block_ledger.specs.Ledgers.{blocks_of}
-use Rattle.node_model.specs.Restarts.{returned_ways}
+use Rattle.world_model.specs.Cores.{core_keeping}
 use Rattle.safety_model.specs.Blocks.{Block, Config}
 use Rattle.script_play.specs.Turns.{Turned}
 use Rattle.world_model.specs.Cores.{core_setting}
@@ -15,6 +14,7 @@ use Rattle.world_model.specs.Turns.{closing_of, closing_of_member, show_turn, sh
 use Rattle.world_model.specs.Worlds as worlds
 use Rattle.world_model.specs.Worlds.{Outcome}
 use Rattle.bft_node.specs.Lodgings.{Lodging, accepts_of}
+use Rattle.bft_node.specs.Running.{chain_of}
 use Rattle.bft_node.specs.declared.lodged.Lodged.{Lodged}
 use Rattle.bft_node.specs.declared.member.Node.{Node}
 use Rattle.world_run.specs.Entries.{entry_of}
@@ -33,7 +33,7 @@ use Rattle.world_run.proofs.SubmitLemmas.{all_at, read_is}
 
 -- the block that was found is that of the node at the place
 pub found_is : (at : Lodging) (w : World) (place number : ℕ) (read member : Member) (found : Option (Block × Proof)) → IsSound at w → slice_get w.members.items place ≡ Some member
-    → read ≡ get_or w.members.items place read → ((l : Lodged) → at read.id ≡ Some l → found ≡ slice_get (blocks_of l.node.running.store.ledger) number)
+    → read ≡ get_or w.members.items place read → ((l : Lodged) → at read.id ≡ Some l → found ≡ slice_get (chain_of l.node.running) number)
     → slice_get (node_of w.config at member).ledger number ≡ found
 found_is at w place number read member found sound has is gives =
     let seated = all_at (IsMember w.config (accepts_of w.outside.seat) at) w.members.items place member sound.nodes has in
@@ -76,7 +76,7 @@ closed_stopped at w later id place is =
 
 pub closed_running : (at : Lodging) (w : World) (later : List Outcome) (id place : ℕ) (node : Node) (before after : List ℕ) → whereabouts_of id w.members.items ≡ Running place
     → option_map (λ (l : Lodged). l.node) (at id) ≡ Some node
-    → ((c : Config) (lodging : Lodging) (l : Lodged) (member : Member) → member.id ≡ id → lodging id ≡ Some l → l.node ≡ node → after ≡ before ++ closing_line returned_ways (node_of c lodging member))
+    → ((c : Config) (lodging : Lodging) (l : Lodged) (member : Member) → member.id ≡ id → lodging id ≡ Some l → l.node ≡ node → after ≡ before ++ closing_line core_keeping.look (node_of c lodging member))
     → after ≡ before ++ closing_of_member core_setting id (worlds.node_at id (world_of at w later).nodes)
 closed_running at w later id place node before after is there printed =
     let stands = where_running id w.members.items place is in

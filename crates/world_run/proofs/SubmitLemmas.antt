@@ -3,7 +3,7 @@ use Rattle.std.proofs.Common.{◌≡◌, ℕ, zero, suc, List, [], ◌∷◌, �
 use Rattle.std.specs.Prelude.{string_bytes}
 use Rattle.std.specs.List.{AllByRecursion}
 use Rattle.std.proofs.lemmas.Option.{get_or_from_slice_get, same_Some}
-use Rattle.node_model.specs.Restarts.{Returned}
+use Rattle.node_model.specs.Cores.{Core}
 use Rattle.safety_model.specs.Blocks.{Config, Request}
 use Rattle.script_play.specs.Turns.{Turned}
 use Rattle.world_model.specs.Pools.{Answer, answer, pool_after}
@@ -36,7 +36,7 @@ pub read_is : {X : Type 0} (xs : List X) (i : ℕ) (read x : X) → read ≡ get
 read_is xs i read x is has = is ∙ get_or_from_slice_get xs i x read has
 
 -- the node with what its pool holds then
-abbrev pub with_pool : Config → Lodging → Member → List Request → worlds.Node Returned
+abbrev pub with_pool : Config → Lodging → Member → List Request → worlds.Node Core
 with_pool c at member pool = record (node_of c at member) { pool = pool }
 
 pub submitted_turn : (at : Lodging) (w : World) (later : List Outcome) (id place : ℕ) (word : List ℕ) (read member new : Member) (bytes : List ℕ) (given : Answer) (after : List ℕ)
@@ -51,13 +51,13 @@ submitted_turn at w later id place word read member new bytes given after first 
     let there = read_is members place read member is has in
     let known : member.id ≡ id = id_at_place id members place member first has in
     let mine : read.id ≡ id = ap (λ (m : Member). m.id) there ∙ known in
-    let turn = λ (n : worlds.Node Returned). submit_turn w.outside.number word (world_of at w later) n bytes in
-    let nodes = ap (λ (n : worlds.Node Returned). worlds.with_node n (map (node_of c at) members)) (sym becomes)
+    let turn = λ (n : worlds.Node Core). submit_turn w.outside.number word (world_of at w later) n bytes in
+    let nodes = ap (λ (n : worlds.Node Core). worlds.with_node n (map (node_of c at) members)) (sym becomes)
     ∙ with_node_set c at members place new (subst (λ (i : ℕ). HasPlace i members place) (sym (same ∙ mine)) first) in
     Turned-same (turn (node_of c at read)) (turn (node_of c at member)) (string_bytes w.outside.text) after (record (world_of at w later) { nodes = map (node_of c at) (set members place new) }) None
     (ap (λ (m : Member). turn (node_of c at m)) there)
     (record {
       printed = printed ∙ ap (λ (i : ℕ). string_bytes w.outside.text ++ answer_text w.outside.number word i given) (sym mine)
           ∙ ap (λ (a : Answer). string_bytes w.outside.text ++ answer_text w.outside.number word read.id a) answers;
-      next = ap (λ (ns : List (worlds.Node Returned)). Ok (record (world_of at w later) { nodes = ns })) nodes;
+      next = ap (λ (ns : List (worlds.Node Core)). Ok (record (world_of at w later) { nodes = ns })) nodes;
     })

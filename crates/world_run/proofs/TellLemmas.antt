@@ -8,16 +8,15 @@ use Rattle.gate_log.specs.declared.image.Image.{Image}
 use Rattle.gate_log.specs.declared.memory.MemDisk.{MemDisk}
 use Rattle.script_play.specs.Turns.{Turned}
 use Rattle.signer_edge.specs.Seals.{Seat}
-use Rattle.node_model.specs.Restarts.{Returned}
+use Rattle.node_model.specs.Cores.{Core}
 use Rattle.world_model.specs.Cores.{core_setting}
 use Rattle.world_model.specs.Says.{says}
 use Rattle.world_model.specs.Texts.{start_text, stop_at_text}
 use Rattle.world_model.specs.Turns.{start_turn, stop_at_turn, stop_turn}
 use Rattle.world_model.specs.Worlds as worlds
 use Rattle.world_model.specs.Worlds.{Outcome}
-use Rattle.bft_node.specs.Laws.{KeptStoreOpens}
 use Rattle.bft_node.specs.Lodgings.{Becomes, Lodging, accepts_of, with_arm}
-use Rattle.bft_node.specs.Standing.{OpensAsModel}
+use Rattle.bft_node.specs.Recovering.{CrashesKeep}
 use Rattle.bft_node.specs.declared.lodged.Lodged.{Lodged}
 use Rattle.world_run.specs.Entries.{entry_of}
 use Rattle.world_run.specs.Following.{Crashes, world_with}
@@ -43,18 +42,18 @@ pub record StopsHere (at next : Lodging) (old new : World) (member : Member) : T
 abbrev pub Stops : Lodging → Lodging → World → World → ℕ → Type 0
 Stops at next old new place = (member : Member) → slice_get old.members.items place ≡ Some member → StopsHere at next old new member
 
-pub stops_here : (result : Result (Unit {0}) NoMemory) (at mid next : Lodging) (old new : World) (place : ℕ) (read : Member) (disk : MemDisk) (image : Image) → KeptStoreOpens → OpensAsModel → IsSound at old
+pub stops_here : (result : Result (Unit {0}) NoMemory) (at mid next : Lodging) (old new : World) (place : ℕ) (read : Member) (disk : MemDisk) (image : Image) → CrashesKeep → IsSound at old
     → read ≡ get_or old.members.items place read → option_map (λ (l : Lodged). l.disk) (at read.id) ≡ Some disk → Becomes at mid read.id None
     → OnOk result ((member : Member) → slice_get old.members.items place ≡ Some member → Crashes mid next old new place member disk image) → OnOk result (Stops at next old new place)
-stops_here (Err e) at mid next old new place read disk image stands model sound is had gone crashes = tt
-stops_here (Ok x) at mid next old new place read disk image stands model sound is had gone crashes = λ member has.
+stops_here (Err e) at mid next old new place read disk image keep sound is had gone crashes = tt
+stops_here (Ok x) at mid next old new place read disk image keep sound is had gone crashes = λ member has.
     let here = member_at at old place member sound has in
     let l = here.node in
     let id : read.id ≡ member.id = ap (λ (m : Member). m.id) (read_is old.members.items place member read has is) in
     let same : disk ≡ l.disk = disk_of (at read.id) l disk had (ap at id ∙ here.there) in
     let left = crashes_behind at mid next old new place member disk image None (subst (λ (i : ℕ). Becomes at mid i None) id gone) (crashes member has) in
     let crashed = subst (λ (d : MemDisk). Crashes at next old new place member d image) same left in
-    let again = stopped_still old member.id l crashed.node image crashed.left stands model here.seated crashed.crash crashed.opened in
+    let again = stopped_still old member.id l crashed.node image crashed.left keep here.seated crashed.crash crashed.opened in
     record { sound = stop_sound at next old new place member l image sound has crashed again; plays = stop_played at next old new place member l image sound has here.there crashed again }
 
 pub stopped_sound : (result : Result (Unit {0}) NoMemory) (at next : Lodging) (old new : World) (place : ℕ) → (member : Member) × (slice_get old.members.items place ≡ Some member) → OnOk result (Stops at next old new place)
@@ -73,18 +72,18 @@ gone_there mid at xs place read is gone member has = ap (λ (m : Member). mid m.
 
 -- A LINE THAT IS SAID of one member
 
-said_of : (at next : Lodging) (w : World) (members : List Member) (said text : List ℕ) (node : worlds.Node Returned)
+said_of : (at next : Lodging) (w : World) (members : List Member) (said text : List ℕ) (node : worlds.Node Core)
     → worlds.with_node node (map (node_of w.config at) w.members.items) ≡ map (node_of w.config next) members → text ≡ string_bytes w.outside.text ++ said → (later : List Outcome)
     → Turned (says said (record (world_of at w later) { nodes = worlds.with_node node (map (node_of w.config at) w.members.items) })) (string_bytes w.outside.text) text
     (world_with next w members (map entry_of w.outside.network.items) later) None
 said_of at next w members said text node becomes printed later =
-    record { printed = printed; next = ap (λ (ns : List (worlds.Node Returned)). Ok (record (world_of at w later) { nodes = ns })) becomes }
+    record { printed = printed; next = ap (λ (ns : List (worlds.Node Core)). Ok (record (world_of at w later) { nodes = ns })) becomes }
 
 -- AN ARM
 
 seated_armed : (w : World) (id call : ℕ) (image : Image) (l : Lodged) → IsSeated w.config (accepts_of w.outside.seat) id l → IsSeated w.config (accepts_of w.outside.seat) id (with_arm call image l)
 seated_armed w id call image l seated =
-    record { runs = seated.runs; named = seated.named; config = seated.config; chain = seated.chain; stands = seated.stands; kept = seated.kept }
+    record { runs = seated.runs; named = seated.named; config = seated.config; holds = seated.holds }
 
 pub armed_there : (at next : Lodging) (w : World) (place : ℕ) (read : Member) (call : ℕ) (image : Image) → IsSound at w → read ≡ get_or w.members.items place read
     → Becomes at next read.id (option_map (with_arm call image) (at read.id)) → (member : Member) → slice_get w.members.items place ≡ Some member → IsArmedAt at next member.id call image
@@ -121,10 +120,10 @@ armed_turned at next w place read call image text sound is becomes printed membe
     let moved : Member = record read { armed = true } in
     let id : moved.id ≡ member.id = ap (λ (m : Member). m.id) same in
     let old_node = node_there w.config at member l armed.1 in
-    let node : ◌≡◌ {A = worlds.Node Returned} (record (node_of w.config at member) { armed = true }) (node_of w.config next moved) =
-    ap (λ (n : worlds.Node Returned). record n { armed = true }) (old_node ∙ ap (λ (m : Member). node_with m l) (sym same)) ∙ sym (node_there w.config next moved (with_arm call image l) (ap next id ∙ armed.2.there)) in
+    let node : ◌≡◌ {A = worlds.Node Core} (record (node_of w.config at member) { armed = true }) (node_of w.config next moved) =
+    ap (λ (n : worlds.Node Core). record n { armed = true }) (old_node ∙ ap (λ (m : Member). node_with m l) (sym same)) ∙ sym (node_there w.config next moved (with_arm call image l) (ap next id ∙ armed.2.there)) in
     said_of at next w (slice_set w.members.items place moved) (stop_at_text w.outside.number member.id) text (record (node_of w.config at member) { armed = true })
-    (ap (λ (n : worlds.Node Returned). worlds.with_node n (map (node_of w.config at) w.members.items)) node
+    (ap (λ (n : worlds.Node Core). worlds.with_node n (map (node_of w.config at) w.members.items)) node
     ∙ with_node_becomes w.config at next w.members.items place member moved (Some (with_arm call image l)) sound.ids has id (subst (λ (i : ℕ). Becomes at next i (Some (with_arm call image l))) (sym id) armed.2))
     (printed ∙ ap (λ (i : ℕ). string_bytes w.outside.text ++ stop_at_text w.outside.number i) id) later
 

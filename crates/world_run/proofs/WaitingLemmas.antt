@@ -6,7 +6,7 @@ use Rattle.std.proofs.lemmas.List.{length-map, map-set, take-append-le}
 use Rattle.std.proofs.lemmas.List.Folds.{list_any_more}
 use Rattle.std.proofs.lemmas.Option.{get_or_from_slice_get, same_Some, slice_get_within}
 use Rattle.safety_model.specs.Blocks.{Config}
-use Rattle.node_model.specs.Restarts.{Returned}
+use Rattle.node_model.specs.Cores.{Core}
 use Rattle.world_model.specs.Worlds as worlds
 use Rattle.bft_node.specs.Lodgings.{Lodging}
 use Rattle.world_run.specs.Entries.{entry_of}
@@ -52,7 +52,7 @@ abbrev pub runs_in : ℕ → List Member → Bool
 runs_in id [] = false
 runs_in id (member ∷ members) = cond (eqb member.id id) member.runs (runs_in id members)
 
-pub runs_choice : (b runs : Bool) (node : worlds.Node Returned) (found : Option (worlds.Node Returned)) → node.runs ≡ runs
+pub runs_choice : (b runs : Bool) (node : worlds.Node Core) (found : Option (worlds.Node Core)) → node.runs ≡ runs
     → is_some (worlds.running (cond b (Some node) found)) ≡ cond b runs (is_some (worlds.running found))
 runs_choice true true node found is = rw is refl
 runs_choice true false node found is = rw is refl

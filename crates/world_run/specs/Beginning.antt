@@ -8,7 +8,8 @@ use Rattle.world_run.specs.Moves.{setup_of}
 use Rattle.world_run.specs.declared.member.Member.{Member}
 use Rattle.world_run.specs.declared.world.World.{World}
 
--- The node of this id is opened on an empty disk, and its member stands behind the others. It runs, and nothing waits in its pool.
+-- The node of this id is opened on an empty disk, and its member stands behind the others. It runs, and
+-- nothing waits in its pool.
 pub record Begins (before after : Lodging) (old new : World) (id : ℕ) : Type 0 where
   pub disk : MemDisk
   pub empty : IsEmptyDisk [] disk

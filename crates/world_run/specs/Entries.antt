@@ -9,4 +9,5 @@ entry_of e = record { from = e.from; to = e.to; bytes = e.bytes.value; came = e.
 
 -- what a node sends, as entries
 abbrev pub posted : ℕ → List Sent → List worlds.Entry
-posted i sends = map (λ (sent : Sent). record { from = i; to = sent.to; bytes = sent.bytes; came = false }) sends
+posted i sends = map (λ (sent : Sent). record { from = i; to = sent.to; bytes = sent.bytes; came = false })
+    sends

@@ -8,6 +8,7 @@ use Rattle.gate_log.specs.Disk.{MayLeave, now}
 use Rattle.gate_log.specs.History.{states}
 use Rattle.gate_log.specs.declared.image.Image.{Image}
 use Rattle.gate_log.specs.declared.memory.MemDisk.{MemDisk}
+use Rattle.node_model.specs.declared.event.Event.{Event}
 use Rattle.world_model.specs.Cores.{core_setting}
 use Rattle.world_model.specs.Pools.{settled}
 use Rattle.world_model.specs.Texts.{fact_text, stopped_text}
@@ -16,9 +17,7 @@ use Rattle.world_model.specs.Worlds as worlds
 use Rattle.world_model.specs.Worlds.{Outcome}
 use Rattle.bft_node.specs.Lodgings.{Becomes, IsOpenedOn, Lodging, accepts_of}
 use Rattle.bft_node.specs.Making.{sent_of}
-use Rattle.bft_node.specs.Running.{event_of}
 use Rattle.bft_node.specs.declared.live.Done.{Done}
-use Rattle.bft_node.specs.declared.live.Event.{Event}
 use Rattle.bft_node.specs.declared.live.Out.{Out}
 use Rattle.bft_node.specs.declared.lodged.Lodged.{Lodged}
 use Rattle.world_run.specs.Entries.{entry_of, posted}
@@ -47,28 +46,35 @@ world_with at w members network later =
 abbrev pub network_after : World → ℕ → Out → List worlds.Entry
 network_after w id out = map entry_of w.outside.network.items ++ posted id (map sent_of out.sends)
 
--- What a step did is printed and sent, and the requests of the blocks that it delivered leave the pool. Nothing else is another.
-pub record Follows (old new : World) (place : ℕ) (member : Member) (out : Out) (ending : Option Ending) : Type 0 where
+-- What a step did is printed and sent, and the requests of the blocks that it delivered leave the pool.
+-- Nothing else is another.
+pub record Follows (old new : World) (place : ℕ) (member : Member) (out : Out) (ending : Option Ending)
+    : Type 0 where
   pub moved : Member
   pub id : moved.id ≡ member.id
   pub runs : moved.runs ≡ member.runs
   pub armed : moved.armed ≡ member.armed
-  pub pool : (delivered : List Request) → flat_map (λ (block : Done). block.ids) out.done ≡ map (λ r. r.id) delivered → moved.pool.items ≡ settled delivered member.pool.items
+  pub pool : (delivered : List Request)
+      → flat_map (λ (block : Done). block.ids) out.done ≡ map (λ r. r.id) delivered
+      → moved.pool.items ≡ settled delivered member.pool.items
   pub members : new.members.items ≡ slice_set old.members.items place moved
   pub config : new.config ≡ old.config
   pub seat : new.outside.seat ≡ old.outside.seat
   pub number : new.outside.number ≡ old.outside.number
   pub turned : (at : Lodging) (later : List Outcome)
-      → Turned (within_limit old.outside.number (flat_map (fact_text old.outside.number) out.facts) (world_with at old (slice_set old.members.items place moved) (network_after old member.id out) later))
+      → Turned (within_limit old.outside.number (flat_map (fact_text old.outside.number) out.facts)
+      (world_with at old (slice_set old.members.items place moved) (network_after old member.id out) later))
       (string_bytes old.outside.text) (string_bytes new.outside.text) (world_of at new later) ending
 
 -- What a crash leaves of a disk: the image in force.
 pub record IsLeftOf (image : Image) (old new : MemDisk) : Type 0 where
   pub image_is : IsCrashOf image old new
-  pub may_be : (file : ℕ) → file < 3 → MayLeave (now (states old.history) file) (now (states new.history) file).reads
+  pub may_be : (file : ℕ) → file < 3
+      → MayLeave (now (states old.history) file) (now (states new.history) file).reads
 
 -- A node is opened again on what a crash leaves of this disk. Its member is stopped, and its pool is lost.
-pub record Crashes (before after : Lodging) (old new : World) (place : ℕ) (member : Member) (disk : MemDisk) (image : Image) : Type 0 where
+pub record Crashes (before after : Lodging) (old new : World) (place : ℕ) (member : Member) (disk : MemDisk)
+    (image : Image) : Type 0 where
   pub left : MemDisk
   pub crash : IsLeftOf image disk left
   pub node : Lodged
@@ -85,10 +91,13 @@ pub record Crashes (before after : Lodging) (old new : World) (place : ℕ) (mem
   pub network : new.outside.network ≡ old.outside.network
   pub seals : new.outside.seat.seals ≡ old.outside.seat.seals
   pub number : new.outside.number ≡ old.outside.number
-  pub text : string_bytes new.outside.text ≡ string_bytes old.outside.text ++ stopped_text old.outside.number member.id
+  pub text : string_bytes new.outside.text
+      ≡ string_bytes old.outside.text ++ stopped_text old.outside.number member.id
 
 -- What an event of a node comes to: the turn of the model.
-pub record TakesEvent (at next : Lodging) (old new : World) (member : Member) (event : Event) (ending : Option Ending) : Type 0 where
+pub record TakesEvent (at next : Lodging) (old new : World) (member : Member) (event : Event)
+    (ending : Option Ending) : Type 0 where
   pub sound : IsSound next new
-  pub plays : Plays at next old new (λ w. event_turn core_setting old.outside.number w (node_of old.config at member) (event_of event)) ending
+  pub plays : Plays at next old new
+      (λ w. event_turn core_setting old.outside.number w (node_of old.config at member) event) ending
   pub number : new.outside.number ≡ old.outside.number

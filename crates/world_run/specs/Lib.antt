@@ -1,4 +1,5 @@
 pub mod Answers
+pub mod AtPlaces
 pub mod Beginning
 pub mod Entries
 pub mod Following

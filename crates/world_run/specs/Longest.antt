@@ -14,4 +14,5 @@ IsMemberAt at member = (l : Lodged) × (at member.id ≡ Some l)
 -- the id is that of a member whose node has the longest ledger; there is none where there are no members
 abbrev pub IsLongest : Config → Lodging → List Member → Option ℕ → Type 0
 IsLongest c at members None = longest (map (node_of c at) members) ≡ None
-IsLongest c at members (Some id) = (member : Member) × (member.id ≡ id) × IsMemberAt at member × (longest (map (node_of c at) members) ≡ Some (node_of c at member))
+IsLongest c at members (Some id) = (member : Member) × (member.id ≡ id) × IsMemberAt at member
+    × (longest (map (node_of c at) members) ≡ Some (node_of c at member))

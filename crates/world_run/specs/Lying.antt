@@ -36,11 +36,22 @@ subject_of m = option_map subject_on (proposal_in m)
 
 abbrev pub prepare_of : Subject → ℕ → Message
 prepare_of subject v =
-    message_of.Prepare (record { config = subject.config; view = v; number = subject.number; digest = subject.digest })
+    message_of.Prepare (record {
+      config = subject.config;
+      view = v;
+      number = subject.number;
+      digest = subject.digest;
+    })
 
 abbrev pub statement_of : Subject → ℕ → List ℕ
 statement_of subject v = commit_text subject.config v subject.number subject.digest
 
 abbrev pub commit_of : Subject → ℕ → Sig → Message
 commit_of subject v sig =
-    message_of.Commit (record { config = subject.config; view = v; number = subject.number; digest = subject.digest; sig = sig })
+    message_of.Commit (record {
+      config = subject.config;
+      view = v;
+      number = subject.number;
+      digest = subject.digest;
+      sig = sig;
+    })

@@ -1,6 +1,6 @@
 -- What the code's world stands for, where these outcomes are still to come.
 use Rattle.std.specs.Prelude.{List, map}
-use Rattle.node_model.specs.Restarts.{Returned}
+use Rattle.node_model.specs.Cores.{Core}
 use Rattle.world_model.specs.Worlds as worlds
 use Rattle.world_model.specs.Worlds.{Outcome}
 use Rattle.bft_node.specs.Lodgings.{Lodging}
@@ -9,7 +9,7 @@ use Rattle.world_run.specs.Members.{node_of}
 use Rattle.world_run.specs.declared.world.World.{World}
 
 abbrev pub Model : Type 0
-Model = worlds.World Returned (Unit {0})
+Model = worlds.World Core (Unit {0})
 
 abbrev pub world_of : Lodging → World → List Outcome → Model
 world_of at w later =

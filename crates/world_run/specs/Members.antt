@@ -2,29 +2,25 @@
 use Rattle.std.specs.Prelude.{◌≡◌, ℕ, false, List, [], Option, Some, None}
 use Rattle.ord_types.specs.declared.values.Proof.{Proof}
 use Rattle.safety_model.specs.Blocks.{Block, Config}
-use Rattle.gate_log.specs.Disk.{now}
-use Rattle.gate_log.specs.History.{states}
 use Rattle.signer_edge.specs.Accepts.{Accepts}
-use Rattle.block_ledger.specs.Chains.{IsChain}
-use Rattle.node_model.specs.Restarts.{Returned, returned_returns}
+use Rattle.node_model.specs.Cores.{Core, core_on}
 use Rattle.world_model.specs.Worlds as worlds
-use Rattle.bft_node.specs.Lodgings.{Lodging}
-use Rattle.bft_node.specs.Running.{state_of}
-use Rattle.bft_node.specs.Standing.{Stands}
-use Rattle.bft_node.specs.Stores.{IsKept, config_of, held_of}
+use Rattle.bft_node.specs.Lodgings.{HoldsIn, Lodging}
+use Rattle.bft_node.specs.Running.{chain_of, state_of}
+use Rattle.bft_node.specs.Stores.{config_of}
 use Rattle.bft_node.specs.declared.lodged.Lodged.{Lodged}
 use Rattle.world_run.specs.declared.member.Member.{Member}
 
 -- what stands under an id; where nothing does, a node that has done nothing
-abbrev pub state_in : Config → ℕ → Option Lodged → Returned
-state_in c id None = returned_returns.ways.opens c [] id
+abbrev pub state_in : Config → ℕ → Option Lodged → Core
+state_in c id None = core_on c id
 state_in c id (Some l) = state_of l.node.running
 
 abbrev pub ledger_in : Option Lodged → List (Block × Proof)
 ledger_in None = []
-ledger_in (Some l) = (held_of l.node.running.store).blocks
+ledger_in (Some l) = chain_of l.node.running
 
-abbrev pub node_of : Config → Lodging → Member → worlds.Node Returned
+abbrev pub node_of : Config → Lodging → Member → worlds.Node Core
 node_of c at member =
     record {
       id = member.id;
@@ -35,17 +31,21 @@ node_of c at member =
       armed = member.armed;
     }
 
--- A node runs on its disk as its last call left it; its blocks are a chain by what is accepted, and its files say what it did.
+-- A node of this id and chain runs, and holds on its disk what it did, by what is accepted.
 pub record IsSeated (c : Config) (accepts : Accepts) (id : ℕ) (l : Lodged) : Type 0 where
   pub runs : l.node.closed ≡ false
   pub named : l.node.running.id ≡ id
   pub config : config_of l.node.running.store ≡ c
-  pub chain : IsChain accepts c (held_of l.node.running.store).blocks
-  pub stands : Stands c id (held_of l.node.running.store) (state_of l.node.running).core
-  pub kept : IsKept l.node.running.store (now (states l.disk.history))
+  pub holds : HoldsIn accepts l
 
 -- such a node stands under the id of the member
 pub record IsMember (c : Config) (accepts : Accepts) (at : Lodging) (member : Member) : Type 0 where
   pub node : Lodged
   pub there : at member.id ≡ Some node
   pub seated : IsSeated c accepts member.id node
+
+-- each is looked at as it was, and is seated where it was
+pub record LooksAlike (c : Config) (before after : Lodging) : Type 0 where
+  pub nodes : (member : Member) → node_of c after member ≡ node_of c before member
+  pub seated : (accepts : Accepts) (member : Member) → IsMember c accepts before member
+      → IsMember c accepts after member

@@ -22,7 +22,8 @@ NoneArmed w = AllByRecursion (λ (member : Member). member.armed ≡ false) w.me
 -- The ids of its nodes and their disks are left alone, and what was sealed is.
 pub record KeepsNodes (old new : World) : Type 0 where
   pub config : new.config ≡ old.config
-  pub ids : map (λ (member : Member). member.id) new.members.items ≡ map (λ (member : Member). member.id) old.members.items
+  pub ids : map (λ (member : Member). member.id) new.members.items
+      ≡ map (λ (member : Member). member.id) old.members.items
   pub armed : NoneArmed old → NoneArmed new
   pub seals : KeepsAccepted (accepts_of old.outside.seat) (accepts_of new.outside.seat)
   pub number : new.outside.number ≡ old.outside.number

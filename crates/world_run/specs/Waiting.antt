@@ -15,4 +15,5 @@ nowhere id = None
 
 -- one of the first entries has not come, and its receiver runs
 abbrev pub waits_before : Config → ℕ → List Member → List Entry → Bool
-waits_before c count members network = list_any (worlds.is_waiting (map (node_of c nowhere) members) None) (take count (map entry_of network))
+waits_before c count members network = list_any (worlds.is_waiting (map (node_of c nowhere) members) None)
+    (take count (map entry_of network))

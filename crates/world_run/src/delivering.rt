@@ -1,5 +1,21 @@
 //! Ticks, and deliveries of what was sent.
-ghost use Rattle.std.specs.Prelude.{◌≡◌, ◌<◌, ◌+◌, ◌-◌, ◌^◌, All, IfNone, IfOk, IfSome, List as Items, OnOk, Some, None, slice_get, string_bytes, vec_len};
+ghost use Rattle.std.specs.Prelude.{
+  ◌≡◌,
+  ◌<◌,
+  ◌+◌,
+  ◌-◌,
+  ◌^◌,
+  All,
+  IfNone,
+  IfOk,
+  IfSome,
+  List as Items,
+  OnOk,
+  Some,
+  None,
+  slice_get,
+  vec_len,
+};
 ghost use Rattle.script.specs.Commands.{IsRange};
 ghost use Rattle.script_play.specs.Turns.{EndsTurn};
 ghost use Rattle.world_model.specs.Cores.{core_setting};
@@ -42,7 +58,7 @@ fn is_named(only: &Option<List<u32>>, entry: &Entry) -> bool
 }
 
 impl World {
-    ghost use Rattle.world_run.specs.Going.{ByMoves, Delivers, EndsDelivery, Plays};
+    ghost use Rattle.world_run.specs.Going.{DeliversBy, EndsDelivery, Plays};
     ghost use Rattle.world_run.specs.Mapped.{world_of};
     ghost use Rattle.world_run.specs.Sound.{IsSound};
 
@@ -56,7 +72,8 @@ impl World {
         requires sound { IsSound (N.at nodes.old) self.old }
         ensures sound { OnOk result (IsSound (N.at nodes.new) self.new) }
         ensures ends { IfOk result (λ ending. IfSome ending EndsTurn) }
-        ensures plays { IfOk result (λ ending. Plays (N.at nodes.old) (N.at nodes.new) self.old self.new (ticks core_setting self.old.outside.number id count) ending) }
+        ensures plays { IfOk result (λ ending. Plays (N.at nodes.old) (N.at nodes.new) self.old self.new
+            (ticks core_setting self.old.outside.number id count) ending) }
         ensures number { OnOk result (self.new.outside.number ≡ self.old.outside.number) }
     {
         for _tick in 0..count {
@@ -73,8 +90,8 @@ impl World {
         Ok(None)
     }
 
-    /// The entry at this place, counted from 0, comes to its receiver. Where that doesn't run, it is lost, and
-    /// has not come.
+    /// The entry at this place, counted from 0, comes to its receiver. Where that doesn't run, it is lost,
+    /// and has not come.
     fn deliver_entry<N: Nodes>(
         &mut self,
         nodes: &mut N,
@@ -84,8 +101,10 @@ impl World {
         requires there { at < vec_len self.old.outside.network }
         ensures sound { OnOk result (IsSound (N.at nodes.new) self.new) }
         ensures ends { IfOk result (λ ending. IfSome ending EndsTurn) }
-        ensures plays { IfOk result (λ ending. (entry : worlds.Entry) → (lodged : Lodging) (later : Items Outcome) → slice_get (world_of lodged self.old later).network at ≡ Some entry →
-            Plays (N.at nodes.old) (N.at nodes.new) self.old self.new (delivery core_setting self.old.outside.number at entry) ending) }
+        ensures plays { IfOk result (λ ending. (entry : worlds.Entry) (lodged : Lodging)
+            (later : Items Outcome) → slice_get (world_of lodged self.old later).network at ≡ Some entry
+            → Plays (N.at nodes.old) (N.at nodes.new) self.old self.new
+            (delivery core_setting self.old.outside.number at entry) ending) }
         ensures number { OnOk result (self.new.outside.number ≡ self.old.outside.number) }
     {
         let to = self.outside.network[at].to;
@@ -101,7 +120,8 @@ impl World {
 
     /// The place of the entry with this number.
     pub(crate) fn place_of_entry(&self, number: u64) -> Option<usize>
-        ensures none { (lodged : Lodging) (later : Items Outcome) → IfNone result (worlds.entry number (world_of lodged self.now later) ≡ None) }
+        ensures none { (lodged : Lodging) (later : Items Outcome)
+            → IfNone result (worlds.entry number (world_of lodged self.now later) ≡ None) }
         ensures some { IfSome result (λ at. (at < vec_len self.now.outside.network) × (number ≡ at + 1)) }
     {
         let at = number.checked_sub(1)?;
@@ -112,8 +132,8 @@ impl World {
         }
     }
 
-    /// Delivers the entry at this place, after so many others. A lost one isn't counted; where the receiver is
-    /// stopped in it, the line ends.
+    /// Delivers the entry at this place, after so many others. A lost one isn't counted; where the receiver
+    /// is stopped in it, the line ends.
     fn deliver_next<N: Nodes>(
         &mut self,
         nodes: &mut N,
@@ -124,8 +144,8 @@ impl World {
         requires there { at < vec_len self.old.outside.network }
         ensures sound { OnOk result (IsSound (N.at nodes.new) self.new) }
         ensures ends { IfOk result EndsDelivery }
-        ensures delivers { IfOk result (λ delivered. ByMoves (Unit {0}) (N.at nodes.old) (N.at nodes.new) self.old self.new (λ w next.
-            Delivers (deliveries core_setting self.old.outside.number 1 (at + 1) so_far w) (string_bytes self.old.outside.text) (string_bytes self.new.outside.text) next delivered)) }
+        ensures delivers { IfOk result (DeliversBy (N.at nodes.old) (N.at nodes.new) self.old self.new
+            (deliveries core_setting self.old.outside.number 1 (at + 1) so_far)) }
         ensures number { OnOk result (self.new.outside.number ≡ self.old.outside.number) }
     {
         let to = self.outside.network[at].to;
@@ -155,8 +175,9 @@ impl World {
         requires range { range.last < 2 ^ 64 - 1 }
         ensures sound { OnOk result (IsSound (N.at nodes.new) self.new) }
         ensures ends { IfOk result EndsDelivery }
-        ensures delivers { IfOk result (λ delivered. ByMoves (Unit {0}) (N.at nodes.old) (N.at nodes.new) self.old self.new (λ w next.
-            Delivers (deliveries core_setting self.old.outside.number (range.last + 1 - range.first) range.first so_far w) (string_bytes self.old.outside.text) (string_bytes self.new.outside.text) next delivered)) }
+        ensures delivers { IfOk result (DeliversBy (N.at nodes.old) (N.at nodes.new) self.old self.new
+            (deliveries core_setting self.old.outside.number (range.last + 1 - range.first) range.first
+            so_far)) }
         ensures number { OnOk result (self.new.outside.number ≡ self.old.outside.number) }
     {
         let mut count = so_far;
@@ -183,7 +204,8 @@ impl World {
         requires ranges { All IsRange ranges.now }
         ensures sound { OnOk result (IsSound (N.at nodes.new) self.new) }
         ensures ends { IfOk result (λ ending. IfSome ending EndsTurn) }
-        ensures plays { IfOk result (λ ending. Plays (N.at nodes.old) (N.at nodes.new) self.old self.new (deliver_turn core_setting self.old.outside.number ranges.now 0) ending) }
+        ensures plays { IfOk result (λ ending. Plays (N.at nodes.old) (N.at nodes.new) self.old self.new
+            (deliver_turn core_setting self.old.outside.number ranges.now 0) ending) }
         ensures number { OnOk result (self.new.outside.number ≡ self.old.outside.number) }
     {
         let mut count = 0;
@@ -200,7 +222,9 @@ impl World {
 
     /// Whether an entry waits for its receiver.
     fn waits(&self, only: &Option<List<u32>>, entry: &Entry) -> bool
-        ensures { (lodged : Lodging) (later : Items Outcome) → result ≡ worlds.is_waiting (world_of lodged self.now later).nodes only.now (entry_of entry.now) }
+        ensures { (lodged : Lodging) (later : Items Outcome)
+            → result ≡ worlds.is_waiting (world_of lodged self.now later).nodes only.now
+            (entry_of entry.now) }
     {
         !entry.came && is_named(only, entry) && self.is_running(entry.to)
     }
@@ -208,7 +232,9 @@ impl World {
     /// Whether the entry at this place waits for its receiver.
     fn is_waiting(&self, only: &Option<List<u32>>, at: usize) -> bool
         requires { at < vec_len self.now.outside.network }
-        ensures { (lodged : Lodging) (later : Items Outcome) (entry : worlds.Entry) → slice_get (world_of lodged self.now later).network at ≡ Some entry → result ≡ worlds.is_waiting (world_of lodged self.now later).nodes only.now entry }
+        ensures { (lodged : Lodging) (later : Items Outcome) (entry : worlds.Entry)
+            → slice_get (world_of lodged self.now later).network at ≡ Some entry
+            → result ≡ worlds.is_waiting (world_of lodged self.now later).nodes only.now entry }
     {
         self.waits(only, &self.outside.network[at])
     }
@@ -227,8 +253,8 @@ impl World {
         }
     }
 
-    /// Delivers the entries that wait, between these ids alone where there are some. It goes on where a receiver is stopped,
-    /// and counts that entry.
+    /// Delivers the entries that wait, between these ids alone where there are some. It goes on where a
+    /// receiver is stopped, and counts that entry.
     pub(crate) fn flush<N: Nodes>(
         &mut self,
         nodes: &mut N,
@@ -237,7 +263,8 @@ impl World {
         requires sound { IsSound (N.at nodes.old) self.old }
         ensures sound { OnOk result (IsSound (N.at nodes.new) self.new) }
         ensures ends { IfOk result (λ ending. IfSome ending EndsTurn) }
-        ensures plays { IfOk result (λ ending. Plays (N.at nodes.old) (N.at nodes.new) self.old self.new (flush_turn core_setting self.old.outside.number only.now 10000 0) ending) }
+        ensures plays { IfOk result (λ ending. Plays (N.at nodes.old) (N.at nodes.new) self.old self.new
+            (flush_turn core_setting self.old.outside.number only.now 10000 0) ending) }
         ensures number { OnOk result (self.new.outside.number ≡ self.old.outside.number) }
     {
         self.pass_over();

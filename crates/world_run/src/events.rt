@@ -1,19 +1,34 @@
 //! The events of nodes, and their stops.
-ghost use Rattle.std.specs.Prelude.{◌≡◌, ◌==◌, ◌++◌, Bool, IfOk, IfSome, List as Items, OnOk, Some, None, is_some, map, position, slice_get, string_bytes, true, false};
+ghost use Rattle.std.specs.Prelude.{
+  ◌≡◌,
+  ◌==◌,
+  ◌++◌,
+  Bool,
+  IfOk,
+  IfSome,
+  List as Items,
+  OnOk,
+  Some,
+  None,
+  is_some,
+  map,
+  position,
+  slice_get,
+  true,
+  false,
+};
 ghost use Rattle.ord_types.specs.Genesis.{IsGenesisConfig};
 ghost use Rattle.gate_log.specs.Arms.{is_reached};
 ghost use Rattle.gate_log.specs.declared.image.Image.{Image as SomeImage};
 ghost use Rattle.gate_log.specs.declared.memory.MemDisk.{MemDisk as SomeDisk};
-ghost use Rattle.script_play.specs.Turns.{EndsTurn, Turned};
-ghost use Rattle.node_model.specs.Restarts.{returned_ways};
-ghost use Rattle.world_model.specs.Cores.{core_setting};
+ghost use Rattle.script_play.specs.Turns.{EndsTurn};
+ghost use Rattle.world_model.specs.Cores.{core_keeping, core_setting};
 ghost use Rattle.world_model.specs.Pools.{offer};
 ghost use Rattle.world_model.specs.Turns.{event_turn, start_turn, stop_at_turn, stop_turn, tick_at};
 ghost use Rattle.world_model.specs.Worlds as worlds;
 ghost use Rattle.world_model.specs.Worlds.{Outcome};
-ghost use Rattle.node_model.specs.Steps.{FromMember};
+ghost use Rattle.node_model.specs.declared.event.Event.TheVariants.{FromMember};
 ghost use Rattle.bft_node.specs.Lodgings.{Lodging};
-ghost use Rattle.bft_node.specs.Running.{event_of};
 ghost use Rattle.bft_node.specs.declared.lodged.Lodged.{Lodged};
 ghost use Rattle.world_run.specs.Answers.{image_of};
 ghost use Rattle.world_run.specs.Members.{node_of};
@@ -23,8 +38,9 @@ use crate::network::add_sends;
 use crate::pool::{offer, settle};
 use crate::texts::{put_facts, put_start, put_stop_at, put_stopped};
 use crate::world::World;
-use bft_node::{Event, NodeFault, Nodes, Out, deeds_are_found, stored_deeds_stand};
+use bft_node::{NodeFault, Nodes, Out, nodes_are_found};
 use gate_log::{Image, MemDisk};
+use node_model::Event;
 use ord_types::{Bytes, List, NoMemory, Request};
 use script_play::Ending;
 
@@ -40,8 +56,9 @@ pub(crate) fn image_of(image: script::Image) -> Image
 }
 
 impl World {
+    ghost use Rattle.world_run.specs.AtPlaces.{AtPlace, HasMember, HasRunning};
     ghost use Rattle.world_run.specs.Following.{Crashes, Follows, TakesEvent};
-    ghost use Rattle.world_run.specs.Going.{Plays};
+    ghost use Rattle.world_run.specs.Going.{Plays, SaysAt, Tells};
     ghost use Rattle.world_run.specs.Mapped.{world_of};
     ghost use Rattle.world_run.specs.Moves.{IsArmedAt};
     ghost use Rattle.world_run.specs.Sound.{IsSound, KeepsNodes};
@@ -49,8 +66,9 @@ impl World {
     /// What the pool of the node at this place offers for the next block, where the node may propose.
     fn offer_to<N: Nodes>(&self, nodes: &N, place: usize) -> Result<List<Request>, NoMemory>
         requires sound { IsSound (N.at nodes.now) self.now }
-        requires there { (member : SomeMember) × (slice_get self.now.members.items place ≡ Some member) }
-        ensures { IfOk result (λ offer. (member : SomeMember) → slice_get self.now.members.items place ≡ Some member → offer ≡ worlds.offer_to returned_ways (node_of self.now.config (N.at nodes.now) member)) }
+        requires there { HasMember self.now place }
+        ensures { IfOk result (λ offer. AtPlace self.now place (λ member. offer ≡ worlds.offer_to core_keeping
+            (node_of self.now.config (N.at nodes.now) member))) }
     {
         let alloc = self.outside.alloc;
         let member = &self.members[place];
@@ -60,12 +78,13 @@ impl World {
         offer(alloc, member.pool.as_slice())
     }
 
-    /// What a step of the node at this place did: its blocks are printed, their requests leave the pool, and its
-    /// messages are sent.
+    /// What a step of the node at this place did: its blocks are printed, their requests leave the pool, and
+    /// its messages are sent.
     fn follow(&mut self, place: usize, out: Out) -> Result<Option<Ending>, NoMemory>
-        requires { (member : SomeMember) × (slice_get self.old.members.items place ≡ Some member) }
+        requires { HasMember self.old place }
         ensures ends { IfOk result (λ ending. IfSome ending EndsTurn) }
-        ensures follows { IfOk result (λ ending. (member : SomeMember) → slice_get self.old.members.items place ≡ Some member → Follows self.old self.new place member out ending) }
+        ensures follows { IfOk result (λ ending. AtPlace self.old place (λ member. Follows self.old self.new
+            place member out ending)) }
     {
         let outside = &mut self.outside;
         let member = &mut self.members[place];
@@ -75,8 +94,8 @@ impl World {
         self.within_limit()
     }
 
-    /// The node at this place has stopped, and its disk is left with this image, or with the armed one where the disk
-    /// stopped at a call. From here on the node stands as the disk opens then; its pool is lost.
+    /// The node at this place has stopped, and its disk is left with this image, or with the armed one where
+    /// the disk stopped at a call. From here on the node stands as the disk opens then; its pool is lost.
     fn crash<N: Nodes>(
         &mut self,
         nodes: &mut N,
@@ -85,9 +104,10 @@ impl World {
         image: Image,
     ) -> Result<(), NoMemory>
         requires genesis { IsGenesisConfig self.old.config }
-        requires there { (member : SomeMember) × (slice_get self.old.members.items place ≡ Some member) }
-        requires gone { (member : SomeMember) → slice_get self.old.members.items place ≡ Some member → N.at nodes.old member.id ≡ None }
-        ensures { OnOk result ((member : SomeMember) → slice_get self.old.members.items place ≡ Some member → Crashes (N.at nodes.old) (N.at nodes.new) self.old self.new place member disk image) }
+        requires there { HasMember self.old place }
+        requires gone { AtPlace self.old place (λ member. N.at nodes.old member.id ≡ None) }
+        ensures { OnOk result (AtPlace self.old place (λ member. Crashes (N.at nodes.old) (N.at nodes.new)
+            self.old self.new place member disk image)) }
     {
         let id = self.members[place].id;
         let disk = disk.crash(image)?;
@@ -100,14 +120,17 @@ impl World {
         Ok(())
     }
 
-    /// The disk of the node at this place failed in a step. A disk in memory fails where it was armed and stops, and for
-    /// want of memory.
+    /// The disk of the node at this place failed in a step. A disk in memory fails where it was armed and
+    /// stops, and for want of memory.
     fn fail<N: Nodes>(&mut self, nodes: &mut N, place: usize) -> Result<(), NoMemory>
         requires genesis { IsGenesisConfig self.old.config }
-        requires there { (member : SomeMember) × (slice_get self.old.members.items place ≡ Some member) × (is_some (N.at nodes.old member.id) ≡ true) }
-        ensures armed { OnOk result ((member : SomeMember) → slice_get self.old.members.items place ≡ Some member → member.armed ≡ true) }
-        ensures crashes { OnOk result ((member : SomeMember) (failed : Lodged) → slice_get self.old.members.items place ≡ Some member → N.at nodes.old member.id ≡ Some failed →
-            (is_reached failed.disk.arm ≡ true) × Crashes (N.at nodes.old) (N.at nodes.new) self.old self.new place member failed.disk SomeImage.Keep) }
+        requires there { (member : SomeMember) × (slice_get self.old.members.items place ≡ Some member)
+            × (is_some (N.at nodes.old member.id) ≡ true) }
+        ensures armed { OnOk result (AtPlace self.old place (λ member. member.armed ≡ true)) }
+        ensures crashes { OnOk result (AtPlace self.old place (λ member. (failed : Lodged)
+            → N.at nodes.old member.id ≡ Some failed → (is_reached failed.disk.arm ≡ true)
+            × Crashes (N.at nodes.old) (N.at nodes.new) self.old self.new place member failed.disk
+            SomeImage.Keep)) }
     {
         let id = self.members[place].id;
         let disk = nodes.stop(id);
@@ -117,8 +140,8 @@ impl World {
         self.crash(nodes, place, disk, Image::Keep)
     }
 
-    /// An event of the node at this place, which runs. Where its disk stops in it, the node is stopped, and what it signed
-    /// stays.
+    /// An event of the node at this place, which runs. Where its disk stops in it, the node is stopped, and
+    /// what it signed stays.
     fn event<N: Nodes>(
         &mut self,
         nodes: &mut N,
@@ -126,11 +149,11 @@ impl World {
         event: Event,
     ) -> Result<Option<Ending>, NoMemory>
         requires sound { IsSound (N.at nodes.old) self.old }
-        requires runs { (member : SomeMember) × (slice_get self.old.members.items place ≡ Some member) × (member.runs ≡ true) }
+        requires runs { HasRunning self.old place }
         ensures ends { IfOk result (λ ending. IfSome ending EndsTurn) }
-        ensures takes { IfOk result (λ ending. (member : SomeMember) → slice_get self.old.members.items place ≡ Some member → TakesEvent (N.at nodes.old) (N.at nodes.new) self.old self.new member event ending) }
+        ensures takes { IfOk result (λ ending. AtPlace self.old place (λ member. TakesEvent (N.at nodes.old)
+            (N.at nodes.new) self.old self.new member event ending)) }
     {
-        deeds_are_found();
         let id = self.members[place].id;
         self.give_seat(id)?;
         match nodes.step(id, event, &mut self.outside.seat) {
@@ -150,11 +173,13 @@ impl World {
         place: usize,
     ) -> Result<Option<Ending>, NoMemory>
         requires sound { IsSound (N.at nodes.old) self.old }
-        requires runs { (member : SomeMember) × (slice_get self.old.members.items place ≡ Some member) × (member.runs ≡ true) }
+        requires runs { HasRunning self.old place }
         ensures sound { OnOk result (IsSound (N.at nodes.new) self.new) }
         ensures ends { IfOk result (λ ending. IfSome ending EndsTurn) }
-        ensures plays { IfOk result (λ ending. (member : SomeMember) → slice_get self.old.members.items place ≡ Some member →
-            Plays (N.at nodes.old) (N.at nodes.new) self.old self.new (λ w. tick_at core_setting self.old.outside.number w (Some (node_of self.old.config (N.at nodes.old) member))) ending) }
+        ensures plays { IfOk result (λ ending. AtPlace self.old place
+            (λ member. Plays (N.at nodes.old) (N.at nodes.new) self.old self.new
+            (λ w. tick_at core_setting self.old.outside.number w
+            (Some (node_of self.old.config (N.at nodes.old) member))) ending)) }
         ensures number { OnOk result (self.new.outside.number ≡ self.old.outside.number) }
     {
         let offer = self.offer_to(nodes, place)?;
@@ -170,11 +195,13 @@ impl World {
         bytes: Bytes,
     ) -> Result<Option<Ending>, NoMemory>
         requires sound { IsSound (N.at nodes.old) self.old }
-        requires runs { (member : SomeMember) × (slice_get self.old.members.items place ≡ Some member) × (member.runs ≡ true) }
+        requires runs { HasRunning self.old place }
         ensures sound { OnOk result (IsSound (N.at nodes.new) self.new) }
         ensures ends { IfOk result (λ ending. IfSome ending EndsTurn) }
-        ensures plays { IfOk result (λ ending. (member : SomeMember) → slice_get self.old.members.items place ≡ Some member →
-            Plays (N.at nodes.old) (N.at nodes.new) self.old self.new (λ w. event_turn core_setting self.old.outside.number w (node_of self.old.config (N.at nodes.old) member) (FromMember from bytes)) ending) }
+        ensures plays { IfOk result (λ ending. AtPlace self.old place
+            (λ member. Plays (N.at nodes.old) (N.at nodes.new) self.old self.new
+            (λ w. event_turn core_setting self.old.outside.number w (node_of self.old.config (N.at nodes.old)
+            member) (FromMember from bytes)) ending)) }
         ensures number { OnOk result (self.new.outside.number ≡ self.old.outside.number) }
     {
         self.event(nodes, place, Event::FromMember { from, bytes })
@@ -188,14 +215,14 @@ impl World {
         image: Image,
     ) -> Result<(), NoMemory>
         requires sound { IsSound (N.at nodes.old) self.old }
-        requires there { (member : SomeMember) × (slice_get self.old.members.items place ≡ Some member) }
+        requires there { HasMember self.old place }
         ensures sound { OnOk result (IsSound (N.at nodes.new) self.new) }
-        ensures plays { OnOk result ((member : SomeMember) → slice_get self.old.members.items place ≡ Some member →
-            Plays (N.at nodes.old) (N.at nodes.new) self.old self.new (λ w. stop_turn core_setting self.old.outside.number w (node_of self.old.config (N.at nodes.old) member)) None) }
+        ensures plays { OnOk result (AtPlace self.old place (λ member. Plays (N.at nodes.old) (N.at nodes.new)
+            self.old self.new (λ w. stop_turn core_setting self.old.outside.number w
+            (node_of self.old.config (N.at nodes.old) member)) None)) }
         ensures number { OnOk result (self.new.outside.number ≡ self.old.outside.number) }
     {
-        deeds_are_found();
-        stored_deeds_stand();
+        nodes_are_found();
         let disk = nodes.stop(self.members[place].id);
         self.crash(nodes, place, disk, image)
     }
@@ -209,11 +236,14 @@ impl World {
         image: Image,
     ) -> Result<(), NoMemory>
         requires sound { IsSound (N.at nodes.old) self.old }
-        requires there { (member : SomeMember) × (slice_get self.old.members.items place ≡ Some member) }
+        requires there { HasMember self.old place }
         ensures sound { OnOk result (IsSound (N.at nodes.new) self.new) }
-        ensures arms { OnOk result ((member : SomeMember) → slice_get self.old.members.items place ≡ Some member → IsArmedAt (N.at nodes.old) (N.at nodes.new) member.id call image) }
-        ensures turned { OnOk result ((member : SomeMember) → slice_get self.old.members.items place ≡ Some member → (later : Items Outcome) →
-            Turned (stop_at_turn self.old.outside.number (world_of (N.at nodes.old) self.old later) (node_of self.old.config (N.at nodes.old) member)) (string_bytes self.old.outside.text) (string_bytes self.new.outside.text) (world_of (N.at nodes.new) self.new later) None) }
+        ensures arms { OnOk result (AtPlace self.old place (λ member. IsArmedAt (N.at nodes.old)
+            (N.at nodes.new) member.id call image)) }
+        ensures turned { OnOk result (AtPlace self.old place (λ member. (later : Items Outcome)
+            → Tells self.old self.new (stop_at_turn self.old.outside.number
+            (world_of (N.at nodes.old) self.old later) (node_of self.old.config (N.at nodes.old) member))
+            (world_of (N.at nodes.new) self.new later) None)) }
         ensures number { OnOk result (self.new.outside.number ≡ self.old.outside.number) }
     {
         let member = &mut self.members[place];
@@ -226,11 +256,13 @@ impl World {
 
     /// Starts the node at this place. Its entries wait again.
     pub(crate) fn start(&mut self, place: usize) -> Result<(), NoMemory>
-        requires there { (member : SomeMember) × (slice_get self.old.members.items place ≡ Some member) }
-        requires first { (member : SomeMember) → slice_get self.old.members.items place ≡ Some member → position (λ other. other.id == member.id) self.old.members.items ≡ Some place }
+        requires there { HasMember self.old place }
+        requires first { AtPlace self.old place (λ member. position (λ other. other.id == member.id)
+            self.old.members.items ≡ Some place) }
         ensures keeps { OnOk result (KeepsNodes self.old self.new) }
-        ensures says { OnOk result ((member : SomeMember) → slice_get self.old.members.items place ≡ Some member → (at : Lodging) (later : Items Outcome) →
-            Turned (start_turn self.old.outside.number (world_of at self.old later) (node_of self.old.config at member)) (string_bytes self.old.outside.text) (string_bytes self.new.outside.text) (world_of at self.new later) None) }
+        ensures says { OnOk result (AtPlace self.old place (λ member. (at : Lodging)
+            → SaysAt at self.old self.new (λ w. start_turn self.old.outside.number w
+            (node_of self.old.config at member)) None)) }
     {
         self.first_waiting = 0;
         let member = &mut self.members[place];

@@ -1,11 +1,25 @@
 //! What Byzantine members send and sign.
-ghost use Rattle.std.specs.Prelude.{◌≡◌, ◌<◌, IfOk, IfSome, List as Items, OnOk, Some, codes, length, map, option_and_then, slice_get, string_bytes, vec_len};
+ghost use Rattle.std.specs.Prelude.{
+  ◌≡◌,
+  ◌<◌,
+  IfOk,
+  IfSome,
+  List as Items,
+  OnOk,
+  Some,
+  codes,
+  length,
+  map,
+  option_and_then,
+  slice_get,
+  vec_len,
+};
 ghost use Rattle.std.specs.Option.{option_map};
 ghost use Rattle.ord_types.specs.Lengths.{FitsRequest, FitsSig};
 ghost use Rattle.bft_wire.specs.Lengths.{FitsMessage};
 ghost use Rattle.bft_wire.specs.Reading.{message_in};
 ghost use Rattle.bft_wire.specs.Spelling.{message_text};
-ghost use Rattle.script_play.specs.Turns.{EndsTurn, Turned};
+ghost use Rattle.script_play.specs.Turns.{EndsTurn};
 ghost use Rattle.world_model.specs.Cores.{core_setting};
 ghost use Rattle.world_model.specs.Liars.{
   is_raft_if_any,
@@ -32,7 +46,14 @@ ghost use Rattle.bft_node.specs.Lodgings.{Lodging};
 ghost use Rattle.safety_model.specs.Blocks.{Config as SomeConfig};
 ghost use Rattle.world_run.specs.Entries.{entry_of};
 ghost use Rattle.world_run.specs.Longest.{IsLongest, IsMemberAt};
-ghost use Rattle.world_run.specs.Lying.{bar_between, bar_text, commit_of, prepare_of, statement_of, subject_of};
+ghost use Rattle.world_run.specs.Lying.{
+  bar_between,
+  bar_text,
+  commit_of,
+  prepare_of,
+  statement_of,
+  subject_of,
+};
 
 use crate::member::Member;
 use crate::network::Entry;
@@ -115,7 +136,8 @@ fn is_raft(alloc: Global, bytes: &[u8]) -> Result<bool, NoMemory>
     }
 }
 
-/// The node of the longest ledger, the first of equally long ones. A stopped one has the ledger that its disk opens to.
+/// The node of the longest ledger, the first of equally long ones. A stopped one has the ledger that its disk
+/// opens to.
 fn longest<N: Nodes>(nodes: &N, members: &[Member]) -> Option<u32>
     requires { AllByRecursion (IsMemberAt (N.at nodes.now)) members.now }
     ensures { (c : SomeConfig) → IsLongest c (N.at nodes.now) members.now result }
@@ -159,13 +181,14 @@ fn proposal_on(
 }
 
 impl World {
-    ghost use Rattle.world_run.specs.Going.{Says};
+    ghost use Rattle.world_run.specs.Going.{Says, SaysAt};
     ghost use Rattle.world_run.specs.Mapped.{world_of};
     ghost use Rattle.world_run.specs.Sound.{IsSound, KeepsNodes};
 
     /// Why an id may not send to another.
     pub(crate) fn bar(&self, from: u32, to: u32) -> Option<Bar>
-        ensures { (lodged : Lodging) (later : Items Outcome) → result ≡ bar_between (world_of lodged self.now later) from to }
+        ensures { (lodged : Lodging) (later : Items Outcome)
+            → result ≡ bar_between (world_of lodged self.now later) from to }
     {
         let members = self.config.members.as_slice();
         if !(members.contains(&from) && members.contains(&to)) {
@@ -191,7 +214,8 @@ impl World {
 
     /// Adds an entry to the network.
     fn post(&mut self, from: u32, to: u32, bytes: Bytes) -> Result<(), NoMemory>
-        ensures sent { OnOk result ((lodged : Lodging) (later : Items Outcome) → world_of lodged self.new later ≡ with_sent (world_of lodged self.old later) from to bytes) }
+        ensures sent { OnOk result ((lodged : Lodging) (later : Items Outcome)
+            → world_of lodged self.new later ≡ with_sent (world_of lodged self.old later) from to bytes) }
         ensures keeps { OnOk result (KeepsNodes self.old self.new) }
         ensures text { OnOk result (self.new.outside.text ≡ self.old.outside.text) }
     {
@@ -214,7 +238,8 @@ impl World {
         bytes: Bytes,
     ) -> Result<Option<Ending>, NoMemory>
         ensures ends { IfOk result (λ ending. IfSome ending EndsTurn) }
-        ensures says { IfOk result (Says self.old self.new (λ w. sends self.old.outside.number word.now w from to bytes)) }
+        ensures says { IfOk result (Says self.old self.new (λ w. sends self.old.outside.number word.now w from
+            to bytes)) }
         ensures keeps { OnOk result (KeepsNodes self.old self.new) }
     {
         self.post(from, to, bytes)?;
@@ -235,7 +260,9 @@ impl World {
     ) -> Result<Option<Bytes>, NoMemory>
         requires sound { IsSound (N.at nodes.now) self.now }
         requires fits { FitsRequest request }
-        ensures { IfOk result (λ bytes. (later : Items Outcome) → bytes ≡ option_map (λ node. message_text (proposal_of node.state.core.place view request)) (longest (world_of (N.at nodes.now) self.now later).nodes)) }
+        ensures { IfOk result (λ bytes. (later : Items Outcome)
+            → bytes ≡ option_map (λ node. message_text (proposal_of node.state.place view request))
+            (longest (world_of (N.at nodes.now) self.now later).nodes)) }
     {
         let Some(id) = longest(nodes, self.members.as_slice()) else {
             return Ok(None);
@@ -258,7 +285,8 @@ impl World {
         requires sound { IsSound (N.at nodes.now) self.old }
         requires fits { FitsRequest request }
         ensures ends { IfOk result (λ ending. IfSome ending EndsTurn) }
-        ensures turned { IfOk result (λ ending. (later : Items Outcome) → Turned (propose_turn core_setting self.old.outside.number (world_of (N.at nodes.now) self.old later) from to view request) (string_bytes self.old.outside.text) (string_bytes self.new.outside.text) (world_of (N.at nodes.now) self.new later) ending) }
+        ensures turned { IfOk result (SaysAt (N.at nodes.now) self.old self.new
+            (λ w. propose_turn core_setting self.old.outside.number w from to view request)) }
         ensures keeps { OnOk result (KeepsNodes self.old self.new) }
     {
         match self.proposal(nodes, view, request)? {
@@ -271,7 +299,9 @@ impl World {
     fn sign(&mut self, id: u32, statement: &[u8]) -> Result<Sig, NoMemory>
         ensures sig { IfOk result (λ sig. sig ≡ sig_at id (length self.old.outside.seat.seals)) }
         ensures fits { IfOk result FitsSig }
-        ensures world { OnOk result ((lodged : Lodging) (later : Items Outcome) → world_of lodged self.new later ≡ with_signed (world_of lodged self.old later) id statement.now) }
+        ensures world { OnOk result ((lodged : Lodging) (later : Items Outcome)
+            → world_of lodged self.new later
+            ≡ with_signed (world_of lodged self.old later) id statement.now) }
         ensures keeps { OnOk result (KeepsNodes self.old self.new) }
         ensures text { OnOk result (self.new.outside.text ≡ self.old.outside.text) }
     {
@@ -288,7 +318,8 @@ impl World {
         subject: Subject,
     ) -> Result<Option<Ending>, NoMemory>
         ensures ends { IfOk result (λ ending. IfSome ending EndsTurn) }
-        ensures says { IfOk result (Says self.old self.new (λ w. sends self.old.outside.number (codes "byz-vote") w from to (message_text (prepare_of subject view)))) }
+        ensures says { IfOk result (Says self.old self.new (λ w. sends self.old.outside.number
+            (codes "byz-vote") w from to (message_text (prepare_of subject view)))) }
         ensures keeps { OnOk result (KeepsNodes self.old self.new) }
     {
         let digest = subject.digest;
@@ -311,7 +342,9 @@ impl World {
         subject: Subject,
     ) -> Result<Option<Ending>, NoMemory>
         ensures ends { IfOk result (λ ending. IfSome ending EndsTurn) }
-        ensures says { IfOk result (Says self.old self.new (λ w. sends self.old.outside.number (codes "byz-vote") (with_signed w from (statement_of subject view)) from to (message_text (commit_of subject view (sig_at from (length w.seals)))))) }
+        ensures says { IfOk result (Says self.old self.new (λ w. sends self.old.outside.number
+            (codes "byz-vote") (with_signed w from (statement_of subject view)) from to
+            (message_text (commit_of subject view (sig_at from (length w.seals)))))) }
         ensures keeps { OnOk result (KeepsNodes self.old self.new) }
     {
         let digest = subject.digest;
@@ -339,7 +372,10 @@ impl World {
     ) -> Result<Option<Ending>, NoMemory>
         requires { at < vec_len self.old.outside.network }
         ensures ends { IfOk result (λ ending. IfSome ending EndsTurn) }
-        ensures says { IfOk result (λ ending. (entry : worlds.Entry) → slice_get (map entry_of self.old.outside.network.items) at ≡ Some entry → Says self.old self.new (λ w. vote_if self.old.outside.number w from to kind view (proposed_in entry.bytes)) ending) }
+        ensures says { IfOk result (λ ending. (entry : worlds.Entry)
+            → slice_get (map entry_of self.old.outside.network.items) at ≡ Some entry
+            → Says self.old self.new (λ w. vote_if self.old.outside.number w from to kind view
+            (proposed_in entry.bytes)) ending) }
         ensures keeps { OnOk result (KeepsNodes self.old self.new) }
     {
         let bytes = self.outside.network[at].bytes.as_ref().as_slice();
@@ -362,7 +398,8 @@ impl World {
         entry: u64,
     ) -> Result<Option<Ending>, NoMemory>
         ensures ends { IfOk result (λ ending. IfSome ending EndsTurn) }
-        ensures says { IfOk result (Says self.old self.new (λ w. vote_turn self.old.outside.number w from to kind view (worlds.entry entry w))) }
+        ensures says { IfOk result (Says self.old self.new (λ w. vote_turn self.old.outside.number w from to
+            kind view (worlds.entry entry w))) }
         ensures keeps { OnOk result (KeepsNodes self.old self.new) }
     {
         match self.place_of_entry(entry) {
@@ -379,7 +416,8 @@ impl World {
         bytes: Bytes,
     ) -> Result<Option<Ending>, NoMemory>
         ensures ends { IfOk result (λ ending. IfSome ending EndsTurn) }
-        ensures says { IfOk result (Says self.old self.new (λ w. lie_turn self.old.outside.number w from to bytes)) }
+        ensures says { IfOk result (Says self.old self.new (λ w. lie_turn self.old.outside.number w from to
+            bytes)) }
         ensures keeps { OnOk result (KeepsNodes self.old self.new) }
     {
         if is_raft(self.outside.alloc, bytes.as_slice())? {
@@ -391,7 +429,8 @@ impl World {
     /// Signs bytes for an id.
     pub(crate) fn seal(&mut self, id: u32, bytes: &[u8]) -> Result<Option<Ending>, NoMemory>
         ensures ends { IfOk result (λ ending. IfSome ending EndsTurn) }
-        ensures says { IfOk result (Says self.old self.new (λ w. seal_turn self.old.outside.number w id bytes.now)) }
+        ensures says { IfOk result (Says self.old self.new (λ w. seal_turn self.old.outside.number w id
+            bytes.now)) }
         ensures keeps { OnOk result (KeepsNodes self.old self.new) }
     {
         let place = self.outside.seat.sealed();

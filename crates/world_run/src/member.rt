@@ -4,8 +4,9 @@ use ord_types::Request;
 use signer_edge::SealSeat;
 use std::alloc::Global;
 
-/// A node: its waiting requests, whether it runs, and whether its disk is armed: a call of it will stop the node. What the
-/// node itself holds stands among the nodes; a stopped one stands there as its disk opened after the crash.
+/// A node: its waiting requests, whether it runs, and whether its disk is armed: a call of it will stop the
+/// node. What the node itself holds stands among the nodes; a stopped one stands there as its disk opened
+/// after the crash.
 #[derive(Drop)]
 pub(crate) struct Member {
     pub(crate) id: u32,

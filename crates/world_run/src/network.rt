@@ -19,8 +19,10 @@ pub(crate) struct Entry {
 
 /// Adds what a step of a node sends. Where there is no memory, some of it is added.
 pub(crate) fn add_sends(network: &mut Vec<Entry>, from: u32, sends: &[Post]) -> Result<(), NoMemory>
-    ensures all { OnOk result (map entry_of network.new.items ≡ map entry_of network.old.items ++ posted from (map sent_of sends.now)) }
-    ensures front { (count : ℕ) × (map entry_of network.new.items ≡ map entry_of network.old.items ++ posted from (map sent_of (take count sends.now))) }
+    ensures all { OnOk result (map entry_of network.new.items ≡ map entry_of network.old.items ++ posted from
+        (map sent_of sends.now)) }
+    ensures front { (count : ℕ) × (map entry_of network.new.items ≡ map entry_of network.old.items ++ posted
+        from (map sent_of (take count sends.now))) }
 {
     for post in sends {
         let bytes = post.message.clone()?;

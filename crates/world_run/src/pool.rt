@@ -81,14 +81,16 @@ pub(crate) fn offer(alloc: Global, pool: &[Request]) -> Result<List<Request>, No
 
 /// Whether a request of this id was delivered.
 fn is_done(id: ReqId, done: &[Done]) -> bool
-    ensures { result ≡ list_any (λ (block : SomeDone). list_any (λ other. id_eq other id) block.ids) done.now }
+    ensures { result
+        ≡ list_any (λ (block : SomeDone). list_any (λ other. id_eq other id) block.ids) done.now }
 {
     done.iter().any(|block| block.ids.as_slice().contains(&id))
 }
 
 /// Drops the requests that were delivered.
 pub(crate) fn settle(pool: &mut Vec<Request>, done: &[Done])
-    ensures { (delivered : Items SomeRequest) → flat_map (λ (block : SomeDone). block.ids) done.now ≡ map (λ r. r.id) delivered → pool.new.items ≡ settled delivered pool.old.items }
+    ensures { (delivered : Items SomeRequest) → flat_map (λ (block : SomeDone). block.ids) done.now
+        ≡ map (λ r. r.id) delivered → pool.new.items ≡ settled delivered pool.old.items }
 {
     pool.retain(|request| !is_done(request.id, done));
 }

@@ -1,19 +1,31 @@
 //! Runs the commands of a script on a world.
-ghost use Rattle.std.specs.Prelude.{◌≡◌, ◌≤◌, ℕ, IfOk, IfSome, List as Items, None, OnOk, Option, Some, length, string_bytes};
+ghost use Rattle.std.specs.Prelude.{
+  ◌≡◌,
+  ◌≤◌,
+  IfOk,
+  IfSome,
+  List as Items,
+  None,
+  OnOk,
+  Option,
+  Some,
+  length,
+  string_bytes,
+};
 ghost use Rattle.ord_types.specs.Members.{how_many_in};
 ghost use Rattle.ord_types.specs.Spelling.{request_text};
 ghost use Rattle.script.specs.Commands.{AreIds, IsWellFormed};
 ghost use Rattle.script.specs.declared.command.Command.TheVariants as command_of;
-ghost use Rattle.script_play.specs.Turns.{EndsTurn, Turned};
-ghost use Rattle.node_model.specs.Restarts.{Returned};
+ghost use Rattle.script_play.specs.Turns.{EndsTurn};
+ghost use Rattle.node_model.specs.Cores.{Core};
 ghost use Rattle.world_model.specs.Cores.{core_setting};
 ghost use Rattle.world_model.specs.Stages.{Stage, stage_closing, stage_turn};
 ghost use Rattle.world_model.specs.Turns.{at_node, ordinary, submit_turn, turn_in};
 ghost use Rattle.world_model.specs.Worlds.{Outcome};
-ghost use Rattle.bft_node.specs.Lodgings.{Lodging, StaysAlike};
+ghost use Rattle.bft_node.specs.Lodgings.{Lodging};
 ghost use Rattle.world_run.specs.Answers.{image_of};
-ghost use Rattle.world_run.specs.Going.{ByMoves, Plays, Says};
-ghost use Rattle.world_run.specs.Lines.{ArmsBy, PlaysLine, decides, stage_at};
+ghost use Rattle.world_run.specs.Going.{ByMoves, Plays, Says, Tells};
+ghost use Rattle.world_run.specs.Lines.{ArmsBy, PlaysCommand, decides, stage_at};
 ghost use Rattle.world_run.specs.Mapped.{world_of};
 ghost use Rattle.world_run.specs.Sound.{IsDecided, IsEmpty, IsSound, IsStanding, KeepsNodes};
 
@@ -39,7 +51,8 @@ impl<N: Nodes> Runner<N> {
     /// A runner before the first genesis, over no nodes.
     pub fn new(alloc: Global, nodes: N) -> Runner<N>
         requires { IsEmpty (N.at nodes) }
-        ensures world { (later : Items Outcome) → stage_at (N.at result.nodes) result.world later ≡ stage_at (N.at nodes) None later }
+        ensures world { (later : Items Outcome)
+            → stage_at (N.at result.nodes) result.world later ≡ stage_at (N.at nodes) None later }
         ensures standing { IsStanding (N.at result.nodes) result.world }
         ensures decided { IsDecided result.world }
     {
@@ -63,7 +76,9 @@ impl<N: Nodes> Runner<N> {
         requires ids { AreIds members }
         ensures standing { OnOk result (IsStanding (N.at self.new.nodes) self.new.world) }
         ensures ends { IfOk result (λ ending. IfSome ending EndsTurn) }
-        ensures plays { IfOk result (λ ending. PlaysLine (N.at self.old.nodes) (N.at self.new.nodes) self.old.world self.new.world (command_of.Genesis members byzantine) (λ stage. stage_turn core_setting stage number (command_of.Genesis members byzantine)) (string_bytes text.old) (string_bytes text.new) ending) }
+        ensures plays { IfOk result (PlaysCommand number (command_of.Genesis members byzantine)
+            (N.at self.old.nodes) (N.at self.new.nodes) self.old.world self.new.world (string_bytes text.old)
+            (string_bytes text.new)) }
     {
         let count = how_many_in(byzantine.as_slice(), members.as_slice());
         let bound = fault_bound(members.len() as u32);
@@ -94,7 +109,8 @@ impl<N: Nodes> Runner<N> {
         requires formed { IsWellFormed command }
         ensures standing { OnOk result (IsStanding (N.at self.new.nodes) self.new.world) }
         ensures ends { IfOk result (λ ending. IfSome ending EndsTurn) }
-        ensures plays { IfOk result (λ ending. PlaysLine (N.at self.old.nodes) (N.at self.new.nodes) self.old.world self.new.world command (λ stage. stage_turn core_setting stage number command) (string_bytes text.old) (string_bytes text.new) ending) }
+        ensures plays { IfOk result (PlaysCommand number command (N.at self.old.nodes) (N.at self.new.nodes)
+            self.old.world self.new.world (string_bytes text.old) (string_bytes text.new)) }
     {
         if let Command::Genesis { members, byzantine } = command {
             return self.open(number, members, byzantine, text);
@@ -103,8 +119,9 @@ impl<N: Nodes> Runner<N> {
         Ok(None)
     }
 
-    /// Does what the command of this line asks, and adds its text. `Some` ends the run. What becomes of an event of a node
-    /// whose disk is armed is what this disk and the box of seals say; a `stop-at` line about a node that runs arms its disk.
+    /// Does what the command of this line asks, and adds its text. `Some` ends the run. What becomes of an
+    /// event of a node whose disk is armed is what this disk and the box of seals say; a `stop-at` line about
+    /// a node that runs arms its disk.
     pub fn line(
         &mut self,
         number: u64,
@@ -115,8 +132,10 @@ impl<N: Nodes> Runner<N> {
         requires formed { IsWellFormed command }
         ensures standing { OnOk result (IsStanding (N.at self.new.nodes) self.new.world) }
         ensures ends { IfOk result (λ ending. IfSome ending EndsTurn) }
-        ensures plays { IfOk result (λ ending. PlaysLine (N.at self.old.nodes) (N.at self.new.nodes) self.old.world self.new.world command (λ stage. stage_turn core_setting stage number command) (string_bytes text.old) (string_bytes text.new) ending) }
-        ensures arms { OnOk result (ArmsBy (N.at self.old.nodes) (N.at self.new.nodes) self.old.world command) }
+        ensures plays { IfOk result (PlaysCommand number command (N.at self.old.nodes) (N.at self.new.nodes)
+            self.old.world self.new.world (string_bytes text.old) (string_bytes text.new)) }
+        ensures arms { OnOk result (ArmsBy (N.at self.old.nodes) (N.at self.new.nodes)
+            self.old.world command) }
     {
         let Some(world) = &mut self.world else {
             return self.begin(number, command, text);
@@ -167,7 +186,8 @@ fn submit_bytes(
     bytes: &[u8],
 ) -> Result<Option<Ending>, NoMemory>
     ensures ends { IfOk result (λ ending. IfSome ending EndsTurn) }
-    ensures says { IfOk result (Says world.old world.new (λ w. at_node world.old.outside.number w node (λ found. submit_turn world.old.outside.number word.now w found bytes.now))) }
+    ensures says { IfOk result (Says world.old world.new (λ w. at_node world.old.outside.number w node
+        (λ found. submit_turn world.old.outside.number word.now w found bytes.now))) }
     ensures keeps { OnOk result (KeepsNodes world.old world.new) }
 {
     match world.whereabouts(node) {
@@ -187,7 +207,8 @@ fn submit(
     payload: Bytes,
 ) -> Result<Option<Ending>, NoMemory>
     ensures ends { IfOk result (λ ending. IfSome ending EndsTurn) }
-    ensures says { IfOk result (Says world.old world.new (λ w. turn_in core_setting world.old.outside.number w (command_of.Submit node id.client id.serial payload))) }
+    ensures says { IfOk result (Says world.old world.new (λ w. turn_in core_setting world.old.outside.number w
+        (command_of.Submit node id.client id.serial payload))) }
     ensures keeps { OnOk result (KeepsNodes world.old world.new) }
 {
     let bytes = ordinary(world.outside.alloc, id, payload)?;
@@ -203,7 +224,8 @@ fn show<N: Nodes>(
     requires sound { IsSound (N.at nodes.old) world.old }
     ensures sound { OnOk result (IsSound (N.at nodes.new) world.new) }
     ensures ends { IfOk result (λ ending. IfSome ending EndsTurn) }
-    ensures plays { IfOk result (Plays (N.at nodes.old) (N.at nodes.new) world.old world.new (λ w. turn_in core_setting world.old.outside.number w (command_of.Show node number))) }
+    ensures plays { IfOk result (Plays (N.at nodes.old) (N.at nodes.new) world.old world.new
+        (λ w. turn_in core_setting world.old.outside.number w (command_of.Show node number))) }
 {
     match world.whereabouts(node) {
         Whereabouts::Absent => world.refuse_absent(node),
@@ -224,7 +246,8 @@ fn tick<N: Nodes>(
     requires sound { IsSound (N.at nodes.old) world.old }
     ensures sound { OnOk result (IsSound (N.at nodes.new) world.new) }
     ensures ends { IfOk result (λ ending. IfSome ending EndsTurn) }
-    ensures plays { IfOk result (Plays (N.at nodes.old) (N.at nodes.new) world.old world.new (λ w. turn_in core_setting world.old.outside.number w (command_of.Tick node count))) }
+    ensures plays { IfOk result (Plays (N.at nodes.old) (N.at nodes.new) world.old world.new
+        (λ w. turn_in core_setting world.old.outside.number w (command_of.Tick node count))) }
 {
     match world.whereabouts(node) {
         Whereabouts::Absent => world.refuse_absent(node),
@@ -243,7 +266,8 @@ fn stop<N: Nodes>(
     requires sound { IsSound (N.at nodes.old) world.old }
     ensures sound { OnOk result (IsSound (N.at nodes.new) world.new) }
     ensures ends { IfOk result (λ ending. IfSome ending EndsTurn) }
-    ensures plays { IfOk result (Plays (N.at nodes.old) (N.at nodes.new) world.old world.new (λ w. turn_in core_setting world.old.outside.number w (command_of.Stop node image))) }
+    ensures plays { IfOk result (Plays (N.at nodes.old) (N.at nodes.new) world.old world.new
+        (λ w. turn_in core_setting world.old.outside.number w (command_of.Stop node image))) }
 {
     match world.whereabouts(node) {
         Whereabouts::Absent => world.refuse_absent(node),
@@ -266,8 +290,11 @@ fn stop_at<N: Nodes>(
     requires sound { IsSound (N.at nodes.old) world.old }
     ensures sound { OnOk result (IsSound (N.at nodes.new) world.new) }
     ensures ends { IfOk result (λ ending. IfSome ending EndsTurn) }
-    ensures plays { IfOk result (λ ending. ByMoves (⊥) (N.at nodes.old) (N.at nodes.new) world.old world.new (λ w to. Turned (turn_in core_setting world.old.outside.number w (command_of.StopAt node call image)) (string_bytes world.old.outside.text) (string_bytes world.new.outside.text) to ending)) }
-    ensures arms { OnOk result (ArmsBy (N.at nodes.old) (N.at nodes.new) (Some world.old) (command_of.StopAt node call image)) }
+    ensures plays { IfOk result (λ ending. ByMoves (⊥) (N.at nodes.old) (N.at nodes.new) world.old world.new
+        (λ w to. Tells world.old world.new (turn_in core_setting world.old.outside.number w
+        (command_of.StopAt node call image)) to ending)) }
+    ensures arms { OnOk result (ArmsBy (N.at nodes.old) (N.at nodes.new) (Some world.old)
+        (command_of.StopAt node call image)) }
 {
     match world.whereabouts(node) {
         Whereabouts::Absent => world.refuse_absent(node),
@@ -282,7 +309,8 @@ fn stop_at<N: Nodes>(
 /// A stopped node starts.
 fn start(world: &mut World, node: u32) -> Result<Option<Ending>, NoMemory>
     ensures ends { IfOk result (λ ending. IfSome ending EndsTurn) }
-    ensures says { IfOk result (Says world.old world.new (λ w. turn_in core_setting world.old.outside.number w (command_of.Start node))) }
+    ensures says { IfOk result (Says world.old world.new (λ w. turn_in core_setting world.old.outside.number w
+        (command_of.Start node))) }
     ensures keeps { OnOk result (KeepsNodes world.old world.new) }
 {
     match world.whereabouts(node) {
@@ -309,7 +337,9 @@ fn propose<N: Nodes>(
     requires sound { IsSound (N.at nodes.now) world.old }
     ensures sound { OnOk result (IsSound (N.at nodes.now) world.new) }
     ensures ends { IfOk result (λ ending. IfSome ending EndsTurn) }
-    ensures plays { IfOk result (Plays (N.at nodes.now) (N.at nodes.now) world.old world.new (λ w. turn_in core_setting world.old.outside.number w (command_of.Propose from to view id.client id.serial payload))) }
+    ensures plays { IfOk result (Plays (N.at nodes.now) (N.at nodes.now) world.old world.new
+        (λ w. turn_in core_setting world.old.outside.number w (command_of.Propose from to view id.client
+        id.serial payload))) }
 {
     let kind = ReqKind::Ordinary;
     match world.bar(from, to) {
@@ -328,7 +358,8 @@ fn vote(
     entry: u64,
 ) -> Result<Option<Ending>, NoMemory>
     ensures ends { IfOk result (λ ending. IfSome ending EndsTurn) }
-    ensures says { IfOk result (Says world.old world.new (λ w. turn_in core_setting world.old.outside.number w (command_of.Vote from to kind view entry))) }
+    ensures says { IfOk result (Says world.old world.new (λ w. turn_in core_setting world.old.outside.number w
+        (command_of.Vote from to kind view entry))) }
     ensures keeps { OnOk result (KeepsNodes world.old world.new) }
 {
     match world.bar(from, to) {
@@ -340,7 +371,8 @@ fn vote(
 /// A Byzantine member sends bytes.
 fn lie(world: &mut World, from: u32, to: u32, bytes: Bytes) -> Result<Option<Ending>, NoMemory>
     ensures ends { IfOk result (λ ending. IfSome ending EndsTurn) }
-    ensures says { IfOk result (Says world.old world.new (λ w. turn_in core_setting world.old.outside.number w (command_of.Lie from to bytes))) }
+    ensures says { IfOk result (Says world.old world.new (λ w. turn_in core_setting world.old.outside.number w
+        (command_of.Lie from to bytes))) }
     ensures keeps { OnOk result (KeepsNodes world.old world.new) }
 {
     match world.bar(from, to) {
@@ -352,7 +384,8 @@ fn lie(world: &mut World, from: u32, to: u32, bytes: Bytes) -> Result<Option<End
 /// A Byzantine member, or the administrator, who is 0, signs bytes.
 fn seal(world: &mut World, id: u32, bytes: &[u8]) -> Result<Option<Ending>, NoMemory>
     ensures ends { IfOk result (λ ending. IfSome ending EndsTurn) }
-    ensures says { IfOk result (Says world.old world.new (λ w. turn_in core_setting world.old.outside.number w (command_of.Seal id bytes.now))) }
+    ensures says { IfOk result (Says world.old world.new (λ w. turn_in core_setting world.old.outside.number w
+        (command_of.Seal id bytes.now))) }
     ensures keeps { OnOk result (KeepsNodes world.old world.new) }
 {
     if id == 0 {
@@ -374,7 +407,9 @@ fn turn_in<N: Nodes>(
     requires sound { IsSound (N.at nodes.old) world.old }
     ensures sound { OnOk result (IsSound (N.at nodes.new) world.new) }
     ensures ends { IfOk result (λ ending. IfSome ending EndsTurn) }
-    ensures plays { IfOk result (λ ending. ByMoves (decides command) (N.at nodes.old) (N.at nodes.new) world.old world.new (λ w to. Turned (turn_in core_setting world.old.outside.number w command) (string_bytes world.old.outside.text) (string_bytes world.new.outside.text) to ending)) }
+    ensures plays { IfOk result (λ ending. ByMoves (decides command) (N.at nodes.old) (N.at nodes.new)
+        world.old world.new (λ w to. Tells world.old world.new (turn_in core_setting world.old.outside.number
+        w command) to ending)) }
     ensures arms { OnOk result (ArmsBy (N.at nodes.old) (N.at nodes.new) (Some world.old) command) }
 {
     match command {
@@ -420,7 +455,7 @@ fn turn_in<N: Nodes>(
 }
 
 impl<N: Nodes> Machine for Runner<N> {
-    ghost World = { Stage Returned (Unit {0}) };
+    ghost World = { Stage Core (Unit {0}) };
 
     ghost Choice = { Outcome };
 

@@ -1,15 +1,25 @@
 //! What a world says of itself: answers of pools, blocks, closing lines and refusals.
-ghost use Rattle.std.specs.Prelude.{◌≡◌, ◌++◌, IfOk, IfSome, List as Items, OnOk, Some, None, codes, slice_get, string_bytes};
+ghost use Rattle.std.specs.Prelude.{
+  ◌≡◌,
+  ◌++◌,
+  IfOk,
+  IfSome,
+  List as Items,
+  OnOk,
+  Some,
+  None,
+  codes,
+  string_bytes,
+};
 ghost use Rattle.safety_model.specs.Blocks.{Config as SomeConfig};
-ghost use Rattle.script_play.specs.Turns.{EndsTurn, Turned};
-ghost use Rattle.node_model.specs.Restarts.{returned_ways};
-ghost use Rattle.world_model.specs.Cores.{core_setting};
+ghost use Rattle.script_play.specs.Turns.{EndsTurn};
+ghost use Rattle.world_model.specs.Cores.{core_keeping, core_setting};
 ghost use Rattle.world_model.specs.Says.{refuses};
 ghost use Rattle.world_model.specs.Texts.{closing_line};
 ghost use Rattle.world_model.specs.Turns.{absence, closing_of, closing_of_member, show_turn, submit_turn};
 ghost use Rattle.world_model.specs.Worlds as worlds;
 ghost use Rattle.world_model.specs.Worlds.{Outcome};
-ghost use Rattle.bft_node.specs.Lodgings.{Lodging, StaysAlike};
+ghost use Rattle.bft_node.specs.Lodgings.{Lodging, ReadsAt};
 ghost use Rattle.bft_node.specs.declared.lodged.Lodged.{Lodged};
 ghost use Rattle.world_run.specs.Members.{node_of};
 ghost use Rattle.world_run.specs.declared.member.Member.{Member as SomeMember};
@@ -26,8 +36,9 @@ use std::alloc::AllocError;
 
 /// The closing line of a node that runs.
 fn put_running(text: &mut String, id: u32, node: &Node) -> Result<(), AllocError>
-    ensures { OnOk result ((c : SomeConfig) (at : Lodging) (l : Lodged) (member : SomeMember) → member.id ≡ id → at id ≡ Some l → l.node ≡ node.now →
-        string_bytes text.new ≡ string_bytes text.old ++ closing_line returned_ways (node_of c at member)) }
+    ensures { OnOk result ((c : SomeConfig) (at : Lodging) (l : Lodged) (member : SomeMember)
+        → member.id ≡ id → at id ≡ Some l → l.node ≡ node.now → string_bytes text.new
+        ≡ string_bytes text.old ++ closing_line core_keeping.look (node_of c at member)) }
 {
     let place = node.ledger().place();
     let view = node.view();
@@ -42,7 +53,8 @@ fn put_running(text: &mut String, id: u32, node: &Node) -> Result<(), AllocError
 }
 
 impl World {
-    ghost use Rattle.world_run.specs.Going.{Says};
+    ghost use Rattle.world_run.specs.AtPlaces.{AtPlace, HasMember};
+    ghost use Rattle.world_run.specs.Going.{Says, SaysAt};
     ghost use Rattle.world_run.specs.Mapped.{world_of};
     ghost use Rattle.world_run.specs.Sound.{IsSound, KeepsNodes};
     ghost use Rattle.world_run.specs.Whereabouts.{whereabouts_of};
@@ -60,7 +72,8 @@ impl World {
     /// Refuses a line about a node that isn't in the world, or about a Byzantine member.
     pub(crate) fn refuse_absent(&mut self, id: u32) -> Result<Option<Ending>, NoMemory>
         ensures ends { IfOk result (λ ending. IfSome ending EndsTurn) }
-        ensures says { IfOk result (Says self.old self.new (λ w. refuses self.old.outside.number (absence w id) w)) }
+        ensures says { IfOk result (Says self.old self.new (λ w. refuses self.old.outside.number
+            (absence w id) w)) }
         ensures keeps { OnOk result (KeepsNodes self.old self.new) }
     {
         if self.config.members.as_slice().contains(&id) {
@@ -79,8 +92,10 @@ impl World {
         bytes: &[u8],
     ) -> Result<(), NoMemory>
         requires { whereabouts_of to self.old.members.items ≡ Whereabouts.Running place }
-        ensures turned { OnOk result ((lodged : Lodging) (later : Items Outcome) (member : SomeMember) → slice_get self.old.members.items place ≡ Some member →
-            Turned (submit_turn self.old.outside.number word.now (world_of lodged self.old later) (node_of self.old.config lodged member) bytes.now) (string_bytes self.old.outside.text) (string_bytes self.new.outside.text) (world_of lodged self.new later) None) }
+        ensures turned { OnOk result ((lodged : Lodging)
+            → AtPlace self.old place (λ member. SaysAt lodged self.old self.new
+            (λ w. submit_turn self.old.outside.number word.now w (node_of self.old.config lodged member)
+            bytes.now) None)) }
         ensures keeps { OnOk result (KeepsNodes self.old self.new) }
     {
         let alloc = self.outside.alloc;
@@ -104,10 +119,12 @@ impl World {
         number: u64,
     ) -> Result<(), NoMemory>
         requires sound { IsSound (N.at nodes.old) self.old }
-        requires there { (member : SomeMember) × (slice_get self.old.members.items place ≡ Some member) }
-        ensures turned { OnOk result ((later : Items Outcome) (member : SomeMember) → slice_get self.old.members.items place ≡ Some member →
-            Turned (show_turn self.old.outside.number (world_of (N.at nodes.old) self.old later) (node_of self.old.config (N.at nodes.old) member) number) (string_bytes self.old.outside.text) (string_bytes self.new.outside.text) (world_of (N.at nodes.old) self.new later) None) }
-        ensures same { StaysAlike (N.at nodes.old) (N.at nodes.new) }
+        requires there { HasMember self.old place }
+        ensures turned { OnOk result (AtPlace self.old place (λ member. SaysAt (N.at nodes.old) self.old
+            self.new (λ w. show_turn self.old.outside.number w (node_of self.old.config (N.at nodes.old)
+            member) number) None)) }
+        ensures reads { OnOk result (AtPlace self.old place (λ member. ReadsAt (N.at nodes.old)
+            (N.at nodes.new) member.id)) }
         ensures keeps { OnOk result (KeepsNodes self.old self.new) }
     {
         let id = self.members[place].id;
@@ -124,7 +141,9 @@ impl World {
     /// The closing line of a member.
     fn closing_of<N: Nodes>(&self, nodes: &N, id: u32, text: &mut String) -> Result<(), AllocError>
         requires { IsSound (N.at nodes.now) self.now }
-        ensures { OnOk result ((later : Items Outcome) → string_bytes text.new ≡ string_bytes text.old ++ closing_of_member core_setting id (worlds.node_at id (world_of (N.at nodes.now) self.now later).nodes)) }
+        ensures { OnOk result ((later : Items Outcome) → string_bytes text.new ≡ string_bytes text.old
+            ++ closing_of_member core_setting id
+            (worlds.node_at id (world_of (N.at nodes.now) self.now later).nodes)) }
     {
         match self.whereabouts(id) {
             Whereabouts::Absent => put_byzantine(text, id),
@@ -137,7 +156,8 @@ impl World {
     #[tactic(auto, unfolding(world_model::specs::Turns::closing_of))]
     pub(crate) fn closing<N: Nodes>(&self, nodes: &N, text: &mut String) -> Result<(), NoMemory>
         requires { IsSound (N.at nodes.now) self.now }
-        ensures { OnOk result ((later : Items Outcome) → string_bytes text.new ≡ string_bytes text.old ++ closing_of core_setting (Some (world_of (N.at nodes.now) self.now later))) }
+        ensures { OnOk result ((later : Items Outcome) → string_bytes text.new ≡ string_bytes text.old
+            ++ closing_of core_setting (Some (world_of (N.at nodes.now) self.now later))) }
     {
         for id in self.config.members.as_slice() {
             self.closing_of(nodes, *id, text)?;

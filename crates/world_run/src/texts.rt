@@ -136,7 +136,8 @@ pub(crate) fn put_seal(text: &mut String, number: u64, place: usize) -> Result<(
 
 #[tactic(auto, unfolding(world_model::specs::Texts::admitted_text))]
 fn put_admitted(text: &mut String, number: u64, word: &str, node: u32) -> Result<(), AllocError>
-    ensures { OnOk result (string_bytes text.new ≡ string_bytes text.old ++ admitted_text number word.now node) }
+    ensures { OnOk result (string_bytes text.new
+        ≡ string_bytes text.old ++ admitted_text number word.now node) }
 {
     write!(text, "{number} {word} {node} admitted\n")
 }
@@ -149,14 +150,16 @@ fn put_malformed(
     node: u32,
     at: u64,
 ) -> Result<(), AllocError>
-    ensures { OnOk result (string_bytes text.new ≡ string_bytes text.old ++ malformed_text number word.now node at) }
+    ensures { OnOk result (string_bytes text.new
+        ≡ string_bytes text.old ++ malformed_text number word.now node at) }
 {
     write!(text, "{number} {word} {node} malformed grammar {at}\n")
 }
 
 #[tactic(auto, unfolding(world_model::specs::Texts::pending_text))]
 fn put_pending(text: &mut String, number: u64, word: &str, node: u32) -> Result<(), AllocError>
-    ensures { OnOk result (string_bytes text.new ≡ string_bytes text.old ++ pending_text number word.now node) }
+    ensures { OnOk result (string_bytes text.new
+        ≡ string_bytes text.old ++ pending_text number word.now node) }
 {
     write!(text, "{number} {word} {node} known pending\n")
 }
@@ -169,7 +172,8 @@ pub(crate) fn put_answer(
     node: u32,
     answer: Answer,
 ) -> Result<(), AllocError>
-    ensures { OnOk result (string_bytes text.new ≡ string_bytes text.old ++ answer_text number word.now node (answer_of answer)) }
+    ensures { OnOk result (string_bytes text.new
+        ≡ string_bytes text.old ++ answer_text number word.now node (answer_of answer)) }
 {
     match answer {
         Answer::Admitted => put_admitted(text, number, word, node),
@@ -185,7 +189,8 @@ fn put_block_front(
     node: u32,
     block: &Block,
 ) -> Result<(), AllocError>
-    ensures { OnOk result (string_bytes text.new ≡ string_bytes text.old ++ block_front_text number node block.now) }
+    ensures { OnOk result (string_bytes text.new
+        ≡ string_bytes text.old ++ block_front_text number node block.now) }
 {
     let place = block.header.number;
     let config = block.meta.config;
@@ -239,7 +244,8 @@ fn put_signer(text: &mut String, signer: u32) -> Result<(), AllocError>
 
 /// The ids of all signers but the first.
 fn put_other_signers(text: &mut String, sigs: &[Sig]) -> Result<(), AllocError>
-    ensures { OnOk result (string_bytes text.new ≡ string_bytes text.old ++ flat_map (λ other. codes "," ++ decimal other) (signers_in sigs.now)) }
+    ensures { OnOk result (string_bytes text.new
+        ≡ string_bytes text.old ++ flat_map (λ other. codes "," ++ decimal other) (signers_in sigs.now)) }
 {
     for sig in sigs {
         put_other_signer(text, sig.signer)?;
@@ -249,7 +255,8 @@ fn put_other_signers(text: &mut String, sigs: &[Sig]) -> Result<(), AllocError>
 
 /// The ids of signers, joined by commas.
 fn put_ids(text: &mut String, sigs: &[Sig]) -> Result<(), AllocError>
-    ensures { OnOk result (string_bytes text.new ≡ string_bytes text.old ++ ids_joined (signers_in sigs.now)) }
+    ensures { OnOk result (string_bytes text.new
+        ≡ string_bytes text.old ++ ids_joined (signers_in sigs.now)) }
 {
     if let [first, rest @ ..] = sigs {
         put_signer(text, first.signer)?;
@@ -260,7 +267,8 @@ fn put_ids(text: &mut String, sigs: &[Sig]) -> Result<(), AllocError>
 
 #[tactic(auto, unfolding(world_model::specs::Texts::signers_front))]
 fn put_cert_signers(text: &mut String, cert: &Cert) -> Result<(), AllocError>
-    ensures { OnOk result (string_bytes text.new ≡ string_bytes text.old ++ signers_text (proof_of.Bft cert.now)) }
+    ensures { OnOk result (string_bytes text.new
+        ≡ string_bytes text.old ++ signers_text (proof_of.Bft cert.now)) }
 {
     text.push_str(" signers ")?;
     put_ids(text, cert.sigs.as_slice())
@@ -308,7 +316,8 @@ fn put_block_told(
     block: &Block,
     proof: &Proof,
 ) -> Result<(), AllocError>
-    ensures { OnOk result (string_bytes text.new ≡ string_bytes text.old ++ block_told number node block.now proof.now) }
+    ensures { OnOk result (string_bytes text.new
+        ≡ string_bytes text.old ++ block_told number node block.now proof.now) }
 {
     put_block_front(text, number, node, block)?;
     put_order(text, proof)?;
@@ -325,7 +334,8 @@ fn put_block(
     block: &Block,
     proof: &Proof,
 ) -> Result<(), AllocError>
-    ensures { OnOk result (string_bytes text.new ≡ string_bytes text.old ++ block_text number node block.now proof.now) }
+    ensures { OnOk result (string_bytes text.new
+        ≡ string_bytes text.old ++ block_text number node block.now proof.now) }
 {
     put_block_told(text, number, node, block, proof)?;
     put_line_end(text)
@@ -347,7 +357,8 @@ fn put_fact(text: &mut String, number: u64, fact: &Fact) -> Result<(), AllocErro
 
 /// The lines of the blocks that are delivered among these facts.
 pub(crate) fn put_facts(text: &mut String, number: u64, facts: &[Fact]) -> Result<(), AllocError>
-    ensures { OnOk result (string_bytes text.new ≡ string_bytes text.old ++ flat_map (fact_text number) facts.now) }
+    ensures { OnOk result (string_bytes text.new
+        ≡ string_bytes text.old ++ flat_map (fact_text number) facts.now) }
 {
     for fact in facts {
         put_fact(text, number, fact)?;
@@ -357,7 +368,8 @@ pub(crate) fn put_facts(text: &mut String, number: u64, facts: &[Fact]) -> Resul
 
 #[tactic(auto, unfolding(world_model::specs::Texts::hash_front))]
 fn put_hash(text: &mut String, hash: &Digest) -> Result<(), AllocError>
-    ensures { OnOk result (string_bytes text.new ≡ string_bytes text.old ++ (hash_front ++ encode_lower hash.now)) }
+    ensures { OnOk result (string_bytes text.new ≡ string_bytes text.old
+        ++ (hash_front ++ encode_lower hash.now)) }
 {
     let hex = encode(*text.allocator(), *hash)?;
     text.push_str(" hash ")?;
@@ -372,7 +384,8 @@ pub(crate) fn put_show(
     block: &Block,
     proof: &Proof,
 ) -> Result<(), AllocError>
-    ensures { OnOk result (string_bytes text.new ≡ string_bytes text.old ++ show_text number node block.now proof.now) }
+    ensures { OnOk result (string_bytes text.new
+        ≡ string_bytes text.old ++ show_text number node block.now proof.now) }
 {
     put_block_told(text, number, node, block, proof)?;
     put_hash(text, &block_hash(&block.header))?;
@@ -388,7 +401,8 @@ pub(crate) fn put_node(
     view: u64,
     left: u64,
 ) -> Result<(), AllocError>
-    ensures { OnOk result (string_bytes text.new ≡ string_bytes text.old ++ node_text id height config view left) }
+    ensures { OnOk result (string_bytes text.new
+        ≡ string_bytes text.old ++ node_text id height config view left) }
 {
     write!(
         text,

@@ -1,8 +1,30 @@
 //! The world of a script: its nodes and the network.
-ghost use Rattle.std.specs.Prelude.{◌≡◌, ◌==◌, ◌++◌, false, true, IfOk, IfSome, IfNone, List as Items, OnOk, Some, None, is_some, length, [], position, slice_get, string_bytes, ◌≤◌, ◌&&◌, ℕ};
+ghost use Rattle.std.specs.Prelude.{
+  ◌≡◌,
+  ◌==◌,
+  ◌++◌,
+  false,
+  true,
+  IfOk,
+  IfSome,
+  IfNone,
+  List as Items,
+  OnOk,
+  Some,
+  None,
+  is_some,
+  length,
+  [],
+  position,
+  slice_get,
+  string_bytes,
+  ◌≤◌,
+  ◌&&◌,
+  ℕ,
+};
 ghost use Rattle.ord_types.specs.Genesis.{IsGenesisConfig};
 ghost use Rattle.script.specs.Commands.{AreIds};
-ghost use Rattle.script_play.specs.Turns.{EndsTurn, Turned};
+ghost use Rattle.script_play.specs.Turns.{EndsTurn};
 ghost use Rattle.world_model.specs.Cores.{core_setting};
 ghost use Rattle.world_model.specs.Turns.{first_config, first_world, within_limit};
 ghost use Rattle.world_model.specs.Worlds as worlds;
@@ -13,7 +35,7 @@ ghost use Rattle.world_run.specs.Waiting.{waits_before};
 
 use crate::member::{Member, Outside};
 use crate::texts::put_limit;
-use bft_node::{Nodes, Setup, deeds_are_found};
+use bft_node::{Nodes, Setup, nodes_are_found};
 use gate_log::MemDisk;
 use ord_types::{Batch, Config, Copied, Kind, List, Mode, NoMemory};
 use script_play::Ending;
@@ -84,6 +106,7 @@ pub(crate) enum Whereabouts {
 
 impl World {
     ghost use Rattle.world_run.specs.Beginning.{Begins};
+    ghost use Rattle.world_run.specs.Going.{TellsLimit};
     ghost use Rattle.world_run.specs.Mapped.{world_of};
     ghost use Rattle.world_run.specs.Moves.{AreMoves, Move, outcomes_of, setup_of};
     ghost use Rattle.world_run.specs.Sound.{IsEmpty, IsSound, NoneArmed};
@@ -101,8 +124,11 @@ impl World {
         requires empty { IsEmpty (N.at nodes.old) }
         ensures sound { IfOk result (IsSound (N.at nodes.new)) }
         ensures unarmed { IfOk result NoneArmed }
-        ensures moves { IfOk result (λ world. (moves : Items Move) × AreMoves (first_config members) (N.at nodes.old) (N.at nodes.new) moves × (outcomes_of moves ≡ [])) }
-        ensures value { IfOk result (λ world. (later : Items Outcome) → world_of (N.at nodes.new) world later ≡ first_world core_setting later (first_config members) byzantine) }
+        ensures moves { IfOk result (λ world. (moves : Items Move)
+            × AreMoves (first_config members) (N.at nodes.old) (N.at nodes.new) moves
+            × (outcomes_of moves ≡ [])) }
+        ensures value { IfOk result (λ world. (later : Items Outcome) → world_of (N.at nodes.new) world later
+            ≡ first_world core_setting later (first_config members) byzantine) }
     {
         let mut world = World {
             config: first_config(members),
@@ -125,10 +151,12 @@ impl World {
         requires seals { self.old.outside.seat.seals ≡ [] }
         ensures sound { OnOk result (IsSound (N.at nodes.new) self.new) }
         ensures unarmed { OnOk result (NoneArmed self.new) }
-        ensures moves { OnOk result ((moves : Items Move) × AreMoves self.old.config (N.at nodes.old) (N.at nodes.new) moves × (outcomes_of moves ≡ [])) }
-        ensures value { OnOk result ((later : Items Outcome) → world_of (N.at nodes.new) self.new later ≡ first_world core_setting later self.old.config self.old.byzantine) }
+        ensures moves { OnOk result ((moves : Items Move) × AreMoves self.old.config (N.at nodes.old)
+            (N.at nodes.new) moves × (outcomes_of moves ≡ [])) }
+        ensures value { OnOk result ((later : Items Outcome) → world_of (N.at nodes.new) self.new later
+            ≡ first_world core_setting later self.old.config self.old.byzantine) }
     {
-        deeds_are_found();
+        nodes_are_found();
         for place in 0..self.config.members.len() {
             let id = self.config.members.as_slice()[place];
             if !self.byzantine.as_slice().contains(&id) {
@@ -165,11 +193,14 @@ impl World {
     ) -> Result<(), NoMemory>
         requires genesis { IsGenesisConfig self.old.config }
         requires free { N.at nodes.old id ≡ None }
-        ensures opens { OnOk result ((l : Lodged) × IsOpenedOn (setup_of self.old.config id) (accepts_of self.old.outside.seat) disk l × Becomes (N.at nodes.old) (N.at nodes.new) id (Some l)) }
+        ensures opens { OnOk result ((l : Lodged)
+            × IsOpenedOn (setup_of self.old.config id) (accepts_of self.old.outside.seat) disk l
+            × Becomes (N.at nodes.old) (N.at nodes.new) id (Some l)) }
         ensures config { OnOk result (self.new.config ≡ self.old.config) }
         ensures byzantine { OnOk result (self.new.byzantine ≡ self.old.byzantine) }
         ensures members { OnOk result (self.new.members ≡ self.old.members) }
-        ensures outside { OnOk result (self.new.outside ≡ record self.old.outside { seat = record { id = id; seals = self.old.outside.seat.seals } }) }
+        ensures outside { OnOk result (self.new.outside
+            ≡ record self.old.outside { seat = record { id = id; seals = self.old.outside.seat.seals } }) }
     {
         let alloc = self.outside.alloc;
         let setup = Setup {
@@ -208,8 +239,10 @@ impl World {
 
     /// The place of the node of this id, where it runs.
     pub(crate) fn running(&self, id: u32) -> Option<usize>
-        ensures some { IfSome result (λ place. whereabouts_of id self.now.members.items ≡ Whereabouts.Running place) }
-        ensures none { IfNone result ((lodged : Lodging) (later : Items Outcome) → worlds.running_at id (world_of lodged self.now later).nodes ≡ None) }
+        ensures some { IfSome result (λ place. whereabouts_of id self.now.members.items ≡ Whereabouts.Running
+            place) }
+        ensures none { IfNone result ((lodged : Lodging) (later : Items Outcome)
+            → worlds.running_at id (world_of lodged self.now later).nodes ≡ None) }
     {
         match self.whereabouts(id) {
             Whereabouts::Running(place) => Some(place),
@@ -220,7 +253,8 @@ impl World {
 
     /// Whether an id has a node that runs.
     pub(crate) fn is_running(&self, id: u32) -> bool
-        ensures { (lodged : Lodging) (later : Items Outcome) → result ≡ is_some (worlds.running_at id (world_of lodged self.now later).nodes) }
+        ensures { (lodged : Lodging) (later : Items Outcome)
+            → result ≡ is_some (worlds.running_at id (world_of lodged self.now later).nodes) }
     {
         match self.running(id) {
             None => false,
@@ -230,7 +264,13 @@ impl World {
 
     /// Gives the box of seals to a signer.
     pub(crate) fn give_seat(&mut self, id: u32) -> Result<(), NoMemory>
-        ensures { OnOk result (self.new ≡ record self.old { outside = record self.old.outside { seat = record { id = id; seals = self.old.outside.seat.seals } } }) }
+        ensures { OnOk result (self.new
+            ≡ record self.old {
+              outside = record self.old.outside {
+                seat =
+                    record { id = id; seals = self.old.outside.seat.seals };
+              };
+            }) }
     {
         let empty = SealBox::new(self.outside.alloc)?.seat(id);
         let seat: SealSeat = mem::replace(&mut self.outside.seat, empty);
@@ -241,8 +281,7 @@ impl World {
     /// Ends the run where more messages were sent than may be.
     pub(crate) fn within_limit(&mut self) -> Result<Option<Ending>, NoMemory>
         ensures ends { IfOk result (λ ending. IfSome ending EndsTurn) }
-        ensures turned { IfOk result (λ ending. (at : Lodging) (later : Items Outcome) (before blocks : Items ℕ) → string_bytes self.old.outside.text ≡ before ++ blocks →
-            Turned (within_limit self.old.outside.number blocks (world_of at self.old later)) before (string_bytes self.new.outside.text) (world_of at self.new later) ending) }
+        ensures turned { IfOk result (TellsLimit self.old self.new) }
         ensures members { OnOk result (self.new.members ≡ self.old.members) }
         ensures config { OnOk result (self.new.config ≡ self.old.config) }
         ensures seat { OnOk result (self.new.outside.seat ≡ self.old.outside.seat) }

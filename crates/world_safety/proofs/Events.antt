@@ -62,6 +62,7 @@ use Rattle.world_model.specs.Worlds.{
   making,
   node_after,
   node_stopped,
+  outcome_in,
   requests_of,
   seals_of,
   sent_by,
@@ -328,9 +329,12 @@ pub event_keeps : (su : Setup) (w : World PastNode History) (node : Node PastNod
     → GoodWorld su (after_event w node event)
 event_keeps su w node event good is brought = go node.armed
   where
+    outcome : Outcome
+    outcome = outcome_in (making past_setting w node event) (first_outcome w.outcomes)
+
     go : (t : Bool) → GoodWorld su
-        (cond t (after_event_by (after_outcome w) node event (first_outcome w.outcomes))
+        (cond t (after_event_by (after_outcome w) node event outcome)
         (after_event_by w node event GoesOn))
-    go true = event_by_keeps su (after_outcome w) node event (first_outcome w.outcomes)
+    go true = event_by_keeps su (after_outcome w) node event outcome
         (later_good su w (after_outcome w).outcomes good) is brought
     go false = event_by_keeps su w node event GoesOn good is brought

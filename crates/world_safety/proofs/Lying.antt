@@ -42,7 +42,7 @@ use Rattle.signer_edge.specs.Seals.{is_sealed}
 use Rattle.signer_edge.proofs.SealFacts.{is_sealed-grown}
 use Rattle.bft_wire.specs.Reading.{message_in}
 use Rattle.bft_wire.specs.Spelling.{message_text}
-use Rattle.node_model.specs.Keeping.{PastNode, past_place, place_of}
+use Rattle.node_model.specs.Keeping.{PastNode, past_place, place_by_facts}
 use Rattle.view_model.specs.Letters.{PrePrepare}
 use Rattle.node_model.specs.Entries.{facts_of}
 use Rattle.world_model.specs.Liars.{
@@ -191,11 +191,11 @@ node_place su w node good is =
     let i = node.id in
     let g = facts_of node.state.past in
     let v = view i (config_of su i g).number g in
-    let fits : PlaceFits (place_of su.config i g) v = place_fits su w.told i node.state.past good.bounded
+    let fits : PlaceFits (place_by_facts su.config i g) v = place_fits su w.told i node.state.past good.bounded
     is.stands good.run good.fit in
-    let a : PlaceFits (place_of node.state.config i g) v =
-    subst (λ (c : Config). PlaceFits (place_of c i g) v) (sym is.config) fits in
-    (v, subst (λ j. PlaceFits (place_of node.state.config j g) v) (sym is.id) a)
+    let a : PlaceFits (place_by_facts node.state.config i g) v =
+    subst (λ (c : Config). PlaceFits (place_by_facts c i g) v) (sym is.config) fits in
+    (v, subst (λ j. PlaceFits (place_by_facts node.state.config j g) v) (sym is.id) a)
 
 pub propose_good : (su : Setup) (w : World PastNode History) (from to v : ℕ) (r : Request)
     (node : Node PastNode) → GoodWorld su w → IsLiar su from to

@@ -48,7 +48,7 @@ use Rattle.safety_model.specs.State.{
   view,
 }
 use Rattle.safety_model.specs.Rules.{IsRun, actor}
-use Rattle.safety_model.specs.Safety.{IsGenesis}
+use Rattle.safety_model.specs.Safety.{BeginsWithGenesis}
 use Rattle.safety_model.proofs.FactTests.{bytes_eq_refl}
 use Rattle.safety_model.proofs.Deliveries.{tip_number}
 use Rattle.safety_model.proofs.StateFacts.{first_view, moves_actor, never_against}
@@ -92,7 +92,7 @@ use Rattle.node_model.specs.Keeping.{
   letter_of,
   of_another,
   own_letters,
-  place_of,
+  place_by_facts,
   timely,
   view_of,
 }
@@ -473,8 +473,8 @@ first_view_of su h i e past st =
     ap (view i e) (sym st.own) ∙ sym (view_own i e h) ∙ (first_view i e h st.still).0
 
 pub stands : (su : Setup) (h : History) (i : ℕ) (past : Past) → NodeStands su h i past
-    → Stands su h i (place_of su.config i (facts_of past)) (view_of su.config i past)
-unfolding place_of view_of
+    → Stands su h i (place_by_facts su.config i (facts_of past)) (view_of su.config i past)
+unfolding place_by_facts view_of
 stands su h i past st =
     let e = (config_of su i (facts_of past)).number in
     let v = view i e (facts_of past) in
@@ -492,8 +492,8 @@ stands su h i past st =
     }
 
 pub stands_last : (su : Setup) (h : History) (i : ℕ) (past : Past) → NodeStands su h i past → IsRun su h
-    → IsGenesis su → su.genesis.header.number ≡ 0 → StandsLast su h i (place_of su.config i (facts_of past))
-unfolding place_of
+    → BeginsWithGenesis su → su.genesis.header.number ≡ 0 → StandsLast su h i (place_by_facts su.config i (facts_of past))
+unfolding place_by_facts
 stands_last su h i past st run genesis first =
     record {
       last = ap (λ (b : Block). block_hash (block_or b (last_delivered i (facts_of past))))

@@ -31,7 +31,7 @@ use Rattle.safety_model.proofs.Chains.{config_stays}
 use Rattle.safety_model.proofs.Deliveries.{last_stands, tip_number}
 use Rattle.chan_config.specs.Places.{cert_in}
 use Rattle.node_model.specs.Entries.{Past, facts_of}
-use Rattle.node_model.specs.Keeping.{cert_of_last, last_block, place_of}
+use Rattle.node_model.specs.Keeping.{cert_of_last, last_block, place_by_facts}
 use Rattle.world_safety.specs.Fits.{CertFits, FactFits, ProofFits}
 use Rattle.world_safety.specs.AllowedSteps.{IsBounded, NodeStands}
 use Rattle.world_safety.proofs.Fitting.{PlaceFits, all_stands}
@@ -74,9 +74,9 @@ last_fits h i fit cert (Some last) is at =
 
 -- so the place fits
 pub place_fits : (su : Setup) (h : History) (i : ℕ) (past : Past) → IsBounded su → NodeStands su h i past
-    → IsRun su h → AllByRecursion FactFits h → PlaceFits (place_of su.config i (facts_of past))
+    → IsRun su h → AllByRecursion FactFits h → PlaceFits (place_by_facts su.config i (facts_of past))
     (view i (config_of su i (facts_of past)).number (facts_of past))
-unfolding place_of header_hash
+unfolding place_by_facts header_hash
 place_fits su h i past bounded node run fit =
     let g = facts_of past in
     let tip_is : tip su i h ≡ tip su i g = tip_own su i h ∙ ap (tip su i) node.own in

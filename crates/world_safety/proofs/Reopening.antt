@@ -38,7 +38,7 @@ use Rattle.safety_model.proofs.Moments.{found, has_found}
 use Rattle.safety_model.proofs.OneView.{accepted_once, accepted_stands, prepared_accepted}
 use Rattle.node_model.specs.Cores.{Found}
 use Rattle.node_model.specs.Entries.{Came, Did, Opened, Past, Sent, Signed, facts_in, facts_of, is_tick}
-use Rattle.node_model.specs.Keeping.{accepted_block, found_of, is_prepared_at, place_of, view_of}
+use Rattle.node_model.specs.Keeping.{accepted_block, found_of, is_prepared_at, place_by_facts, view_of}
 use Rattle.world_safety.specs.AllowedSteps.{IsGoodEntry, NodeStands}
 use Rattle.world_safety.proofs.Delivering.{some_same}
 use Rattle.world_safety.specs.Fits.{FitsAt}
@@ -108,7 +108,7 @@ found_opened : (su : Setup) (h : History) (i : ℕ) (past : Past) → IsRun su h
     → AllByRecursion (IsGoodEntry su h i) past → ((kind : Fact → Bool) → has kind (facts_of past) ≡ true
     → has kind h ≡ true)
     → (f : Found) → found_of su.config i (Opened ∷ past) ≡ Some f → IsFound h i f
-unfolding view_of place_of
+unfolding view_of place_by_facts
 found_opened su h i past run all within f is =
     let e = (config_of su i (facts_of past)).number in
     let v = view i e (facts_of past) in

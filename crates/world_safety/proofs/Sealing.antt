@@ -78,7 +78,7 @@ use Rattle.node_model.specs.Keeping.{
   kept,
   letter_of,
   own_letters,
-  place_of,
+  place_by_facts,
   timely,
   view_of,
 }
@@ -173,7 +173,7 @@ module _ (su : Setup) (i : ℕ) (keys : Keys)
   delivers_certified : (accepts : Accepts) (s : Now) → IsSealedPast su.config i accepts s.past
       → (b : Block) (cert : Cert) → delivery_due (see su i s).place (see su i s).view ≡ Some (b, cert)
       → is_good_cert accepts su.config b.header.number (block_hash b) cert ≡ true
-  unfolding place_of view_of
+  unfolding place_by_facts view_of
   delivers_certified accepts s is b cert due =
       let h = facts_of s.past in
       let now = config_at su.config (delivered i h) in

@@ -54,7 +54,7 @@ use Rattle.view_model.specs.Acts.{
 use Rattle.node_model.specs.declared.event.Event.{Event}
 use Rattle.node_model.specs.Cores.{Core, Found, after_entries}
 use Rattle.node_model.specs.Entries.{Did, Entry, Past, facts_of, is_tick, offer_in, others, statements_of}
-use Rattle.node_model.specs.Keeping.{place_of, view_of}
+use Rattle.node_model.specs.Keeping.{place_by_facts, view_of}
 use Rattle.node_model.specs.Steps.{
   Accept,
   Deliver,
@@ -189,7 +189,7 @@ module _ (su : Setup) (i : ℕ) (bounded : IsBounded su) (correct : is_in i su.b
   Made signed s made = AreMade su i keys signed s made
 
   members_at : (s : Now) → (at s).place.config.members ≡ su.config.members
-  unfolding place_of
+  unfolding place_by_facts
   members_at s = ap (λ (c : Config). c.members) (config_stays su.config (delivered i (facts_of s.past)))
 
   -- the node's place fits
@@ -312,7 +312,7 @@ module _ (su : Setup) (i : ℕ) (bounded : IsBounded su) (correct : is_in i su.b
   -- what is prepared was accepted, so it fits
   prepared_fits : (s : Now) → Moment su i s → (d : List ℕ) → preparation_due (at s).place (at s).view ≡ Some d
       → IsNumber (at s).place.height × IsDigest d
-  unfolding view_of place_of
+  unfolding view_of place_by_facts
   prepared_fits s is d due =
       let now = due_is (at s).place (at s).view d due in
       let g = facts_of s.past in
@@ -358,7 +358,7 @@ module _ (su : Setup) (i : ℕ) (bounded : IsBounded su) (correct : is_in i su.b
   -- what is delivered was accepted, so it fits, and so does its certificate
   delivered_fits : (s : Now) → Moment su i s → (b : Block) (cert : Cert)
       → delivery_due (at s).place (at s).view ≡ Some (b, cert) → DeliveredFits b (proof_of.Bft cert)
-  unfolding view_of place_of
+  unfolding view_of place_by_facts
   delivered_fits s is b cert due =
       let place = (at s).place in
       let w = (at s).view in

@@ -102,6 +102,7 @@ use Rattle.world_model.specs.Worlds.{
   marked,
   node_at,
   node_started,
+  outcome_in,
   running_at,
   tick_of,
   with_node,
@@ -351,7 +352,7 @@ module _ (number : ℕ) where
   event_ends w node event = go node.armed
     where
       outcome : Outcome
-      outcome = first_outcome w.outcomes
+      outcome = outcome_in (making past_setting w node event) (first_outcome w.outcomes)
 
       go : (t : Bool)
           → IsEvent w (cond t (after_event_by (after_outcome w) node event outcome)

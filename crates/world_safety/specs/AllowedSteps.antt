@@ -24,7 +24,7 @@ use Rattle.ord_types.specs.Members.{is_in}
 use Rattle.safety_model.specs.Blocks.{Request}
 use Rattle.safety_model.specs.Facts.{History, has, is_prepared}
 use Rattle.safety_model.specs.Rules.{Allowed, IsRun, actor, bound_of, faulty}
-use Rattle.safety_model.specs.Safety.{IsGenesis}
+use Rattle.safety_model.specs.Safety.{BeginsWithGenesis}
 use Rattle.safety_model.specs.State.{Setup, changes_view}
 use Rattle.safety_model.specs.declared.fact.Fact.{Fact}
 use Rattle.bft_wire.specs.Messages.{HasMessageSpelling}
@@ -59,7 +59,7 @@ use Rattle.world_safety.specs.Resting.{has_ground, own}
 
 -- a chain's setup where no more members lie than the bound allows, and whose configuration has a spelling
 pub record IsBounded (su : Setup) : Type 0 where
-  pub genesis : IsGenesis su
+  pub genesis : BeginsWithGenesis su
   pub few : faulty su.byzantine su.config ≤ bound_of su.config
   pub number : IsNumber su.config.number
   pub members : HasIdsSpelling su.config.members

@@ -101,6 +101,7 @@ use Rattle.world_model.specs.Worlds.{
   marked,
   node_at,
   node_started,
+  outcome_in,
   running_at,
   tick_of,
   with_node,
@@ -123,10 +124,12 @@ after_event_by w node event (Stops cut) = world_stopped_in past_setting w node e
 abbrev pub after_outcome : PastWorld → PastWorld
 after_outcome w = record w { outcomes = drop 1 w.outcomes }
 
--- an armed node takes one
+-- an armed node takes one, which stops it only where it has a deed
 abbrev pub after_event : PastWorld → Node PastNode → Event → PastWorld
 after_event w node event =
-    if node.armed then after_event_by (after_outcome w) node event (first_outcome w.outcomes)
+    if node.armed
+    then after_event_by (after_outcome w) node event
+    (outcome_in (making past_setting w node event) (first_outcome w.outcomes))
     else after_event_by w node event GoesOn
 
 -- TICK

@@ -1,13 +1,14 @@
 use Rattle.std.proofs.Common.{None, sym}
-use Rattle.node_model.specs.Restarts.{Returned}
+use Rattle.node_model.specs.Cores.{Core}
 use Rattle.world_model.specs.Turns.{at_node, show_turn}
 use Rattle.world_model.specs.Worlds as worlds
 use Rattle.world_run.specs.Mapped.{Model, world_of}
 use Rattle.world_run.specs.Members.{node_of}
 use Rattle.world_run.proofs.CommandLemmas.{absent_says, at_running, halted_says}
 use Rattle.world_run.proofs.ListLemmas.{where_running}
-use Rattle.world_run.proofs.MoveLemmas.{sound_kept}
-use Rattle.world_run.proofs.SaysLemmas.{plays_after, plays_here, sound_after}
+use Rattle.world_run.proofs.NodeLemmas.{member_at}
+use Rattle.world_run.proofs.ReadLemmas.{plays_read, read_looks, sound_looks}
+use Rattle.world_run.proofs.SaysLemmas.{plays_after, sound_after}
 use Rattle.world_run.proofs.runner.show.Goals as goal
 
 pub show-requires-clause-there : goal.show-requires-clause-there
@@ -35,14 +36,27 @@ returns-in-Stopped-clause-plays g c =
 
 pub returns-in_ok-show-in-Running-clause-sound : goal.returns-in_ok-show-in-Running-clause-sound
 returns-in_ok-show-in-Running-clause-sound g c =
-    sound_kept (g.N.Nodes.at c.args.nodes.now) (g.N.Nodes.at c.show.new.nodes) c.args.world.now c.show.new.self c.in_ok-show-in-Running.ensures.keeps c.in_ok-show-in-Running.ensures.same c.requires.sound
+    let w = c.args.world.now in
+    let at = g.N.Nodes.at c.args.nodes.now in
+    let next = g.N.Nodes.at c.show.new.nodes in
+    let stands = where_running c.args.node w.members.items c.in-Running.place (sym c.in-Running.ensures) in
+    let here = member_at at w c.in-Running.place stands.member c.requires.sound stands.there in
+    let read = c.in_ok-show-in-Running.ensures in
+    sound_looks at next w c.show.new.self read.keeps
+    (read_looks w.config at next stands.member.id here.node here.there (read.reads stands.member stands.there))
+    c.requires.sound
 
 pub returns-in_ok-show-in-Running-clause-plays : goal.returns-in_ok-show-in-Running-clause-plays
 returns-in_ok-show-in-Running-clause-plays g c =
     let w = c.args.world.now in
     let at = g.N.Nodes.at c.args.nodes.now in
+    let next = g.N.Nodes.at c.show.new.nodes in
     let stands = where_running c.args.node w.members.items c.in-Running.place (sym c.in-Running.ensures) in
-    plays_here at (g.N.Nodes.at c.show.new.nodes) w c.show.new.self (λ (v : Model). show_turn w.outside.number v (node_of w.config at stands.member) c.args.number)
-    (λ (v : Model). at_node w.outside.number v c.args.node (λ (found : worlds.Node Returned). show_turn w.outside.number v found c.args.number)) None c.in_ok-show-in-Running.ensures.keeps c.in_ok-show-in-Running.ensures.same
-    (λ later. sym (at_running at w later w.outside.number c.args.node c.in-Running.place (λ (found : worlds.Node Returned). show_turn w.outside.number (world_of at w later) found c.args.number) stands))
-    (λ later. c.in_ok-show-in-Running.ensures.turned later stands.member stands.there)
+    let here = member_at at w c.in-Running.place stands.member c.requires.sound stands.there in
+    let read = c.in_ok-show-in-Running.ensures in
+    let reads = read.reads stands.member stands.there in
+    plays_read at next w c.show.new.self stands.member.id (λ (v : Model). show_turn w.outside.number v (node_of w.config at stands.member) c.args.number)
+    (λ (v : Model). at_node w.outside.number v c.args.node (λ (found : worlds.Node Core). show_turn w.outside.number v found c.args.number)) None read.keeps reads
+    (read_looks w.config at next stands.member.id here.node here.there reads)
+    (λ later. sym (at_running at w later w.outside.number c.args.node c.in-Running.place (λ (found : worlds.Node Core). show_turn w.outside.number (world_of at w later) found c.args.number) stands))
+    (λ later. read.turned stands.member stands.there later)

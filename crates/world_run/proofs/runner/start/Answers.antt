@@ -1,6 +1,6 @@
 use Rattle.std.proofs.Common.{◌≡◌, ℕ, Some, ap, eqb, position, subst, sym, ◌∙◌}
 use Rattle.std.proofs.lemmas.Option.{same_Some}
-use Rattle.node_model.specs.Restarts.{Returned}
+use Rattle.node_model.specs.Cores.{Core}
 use Rattle.world_model.specs.Turns.{start_turn}
 use Rattle.world_model.specs.Worlds as worlds
 use Rattle.world_run.specs.Mapped.{world_of}
@@ -33,5 +33,5 @@ returns-in_ok-start-in-Stopped-clause-says c = λ at later.
     let w = c.args.world.now in
     let stands = where_stopped c.args.node w.members.items c.in-Stopped.place (sym c.in-Stopped.ensures) in
     Turned-same _ _ _ _ _ _
-    (sym (at_stopped_one at w later w.outside.number c.args.node c.in-Stopped.place (λ (found : worlds.Node Returned). start_turn w.outside.number (world_of at w later) found) stands))
+    (sym (at_stopped_one at w later w.outside.number c.args.node c.in-Stopped.place (λ (found : worlds.Node Core). start_turn w.outside.number (world_of at w later) found) stands))
     (c.in_ok-start-in-Stopped.ensures.says stands.member stands.there at later)

@@ -1,5 +1,5 @@
 use Rattle.std.proofs.Common.{sym}
-use Rattle.node_model.specs.Restarts.{Returned}
+use Rattle.node_model.specs.Cores.{Core}
 use Rattle.world_model.specs.Turns.{submit_turn}
 use Rattle.world_model.specs.Worlds as worlds
 use Rattle.world_run.specs.Mapped.{world_of}
@@ -21,5 +21,5 @@ returns-in_ok-submit-in-Running-clause-says c = λ at later.
     let w = c.args.world.now in
     let stands = where_running c.args.node w.members.items c.in-Running.place (sym c.in-Running.ensures) in
     Turned-same _ _ _ _ _ _
-    (sym (at_running at w later w.outside.number c.args.node c.in-Running.place (λ (found : worlds.Node Returned). submit_turn w.outside.number c.args.word.now (world_of at w later) found c.args.bytes.now) stands))
-    (c.in_ok-submit-in-Running.ensures.turned at later stands.member stands.there)
+    (sym (at_running at w later w.outside.number c.args.node c.in-Running.place (λ (found : worlds.Node Core). submit_turn w.outside.number c.args.word.now (world_of at w later) found c.args.bytes.now) stands))
+    (c.in_ok-submit-in-Running.ensures.turned at stands.member stands.there later)

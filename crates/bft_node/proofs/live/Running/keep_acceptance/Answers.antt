@@ -1,6 +1,6 @@
 use Rattle.std.proofs.Common.{IsTrue, ◌∷◌, ◌++◌, [], ap, refl, subst, sym, ◌∙◌}
 use Rattle.std.proofs.lemmas.List.{append-nil}
-use Rattle.gate_log.specs.Runs.{Went}
+use Rattle.gate_log.specs.Runs.{Throughout}
 use Rattle.node_model.specs.Entries.{Deed}
 use Rattle.node_model.specs.Steps.{acceptance}
 use Rattle.safety_model.specs.declared.fact.Fact.{Fact}
@@ -19,14 +19,14 @@ pub returns-in_err-accept-clause-any_moment : goal.returns-in_err-accept-clause-
 returns-in_err-accept-clause-any_moment g c =
     let r = c.args.self.now in
     let same = same_acceptance r r.view.me c.view-view.result c.place-place.result.now c.args.block refl c.place-place.ensures c.view-view.ensures in
-    keeps_within _ r _ _ _ (λ judge t chain. subst (λ (d : Deed). Went (Within judge (config_of r.store) (d ∷ []) (held_of r.store)) (g.D.Disk.moments c.args.disk.now) (g.D.Disk.moments c.accept.new.disk)) same
+    keeps_within _ r _ _ _ (λ judge t chain. subst (λ (d : Deed). Throughout (Within judge (config_of r.store) (d ∷ []) (held_of r.store)) (g.D.Disk.moments c.args.disk.now) (g.D.Disk.moments c.accept.new.disk)) same
     (c.accept.ensures.any_moment r.view.me judge t chain))
 
 pub returns-in_err-push-clause-any_moment : goal.returns-in_err-push-clause-any_moment
 returns-in_err-push-clause-any_moment g c =
     let r = c.args.self.now in
     let same = same_acceptance r r.view.me c.view-view.result c.place-place.result.now c.args.block refl c.place-place.ensures c.view-view.ensures in
-    keeps_within _ r _ _ _ (λ judge t chain. subst (λ (d : Deed). Went (Within judge (config_of r.store) (d ∷ []) (held_of r.store)) (g.D.Disk.moments c.args.disk.now) (g.D.Disk.moments c.accept.new.disk)) same
+    keeps_within _ r _ _ _ (λ judge t chain. subst (λ (d : Deed). Throughout (Within judge (config_of r.store) (d ∷ []) (held_of r.store)) (g.D.Disk.moments c.args.disk.now) (g.D.Disk.moments c.accept.new.disk)) same
     (c.accept.ensures.any_moment r.view.me judge t chain))
 
 pub returns-in_err-accept-clause-limit : goal.returns-in_err-accept-clause-limit
@@ -61,5 +61,5 @@ pub returns-clause-any_moment : goal.returns-clause-any_moment
 returns-clause-any_moment g c =
     let r = c.args.self.now in
     let same = same_acceptance r r.view.me c.view-view.result c.place-place.result.now c.args.block refl c.place-place.ensures c.view-view.ensures in
-    keeps_within _ r _ _ _ (λ judge t chain. subst (λ (d : Deed). Went (Within judge (config_of r.store) (d ∷ []) (held_of r.store)) (g.D.Disk.moments c.args.disk.now) (g.D.Disk.moments c.accept.new.disk)) same
+    keeps_within _ r _ _ _ (λ judge t chain. subst (λ (d : Deed). Throughout (Within judge (config_of r.store) (d ∷ []) (held_of r.store)) (g.D.Disk.moments c.args.disk.now) (g.D.Disk.moments c.accept.new.disk)) same
     (c.accept.ensures.any_moment r.view.me judge t chain))

@@ -3,8 +3,8 @@ use Rattle.std.specs.Prelude.{Result}
 use Rattle.ord_types.specs.declared.values.Config.{Config}
 use Rattle.gate_log.specs.Disk.{now}
 use Rattle.gate_log.proofs.Going.{leaves_then, leaves_to}
-use Rattle.block_ledger.specs.Answers.{OnRefusal, OpensTo}
-use Rattle.block_ledger.specs.Chains.{IsChain, IsGenesis, genesis_entry}
+use Rattle.block_ledger.specs.Answers.{OnRefusal, LedgerOpensTo}
+use Rattle.block_ledger.specs.Chains.{IsChain, IsGenesisBlock, genesis_entry}
 use Rattle.block_ledger.specs.Ledgers.{StandsAsBefore, blocks_of, first_config}
 use Rattle.block_ledger.specs.Loading.{TellsBad}
 use Rattle.block_ledger.specs.Reading.{Chain, read_chain, stands_for}
@@ -34,7 +34,7 @@ read_blocks-requires-clause-genesis g c = c.in_ok-config.ensures
 pub returns-in_err-log-clause-value : goal.returns-in_err-log-clause-value
 returns-in_err-log-clause-value g c = λ d is t.
     let accepts = g.V.Verifier.accepts c.args.verifier.now in
-    handed (OpensTo (stands_for accepts d (now (g.D.Disk.moments c.args.disk.now) 2).reads)) c.from_residual-in_err-log.result _ c.from_residual-in_err-log.ensures
+    handed (LedgerOpensTo (stands_for accepts d (now (g.D.Disk.moments c.args.disk.now) 2).reads)) c.from_residual-in_err-log.result _ c.from_residual-in_err-log.ensures
     (log_value accepts d c.in_err-log.field-0.0 (now (g.D.Disk.moments c.args.disk.now) 2).reads (c.in_err-log.ensures.value t))
 
 pub returns-in_err-log-clause-any_moment : goal.returns-in_err-log-clause-any_moment
@@ -53,7 +53,7 @@ pub returns-in_err-ledger-clause-value : goal.returns-in_err-ledger-clause-value
 returns-in_err-ledger-clause-value g c = λ d is t.
     let accepts = g.V.Verifier.accepts c.args.verifier.now in
     let later = subst IsTrue (sym c.open.ensures.tells) t in
-    handed (OpensTo (stands_for accepts d (now (g.D.Disk.moments c.args.disk.now) 2).reads)) c.from_residual-in_err-ledger.result _ c.from_residual-in_err-ledger.ensures
+    handed (LedgerOpensTo (stands_for accepts d (now (g.D.Disk.moments c.args.disk.now) 2).reads)) c.from_residual-in_err-ledger.result _ c.from_residual-in_err-ledger.ensures
     (begin_value (g.D.Disk.tells c.open.new.disk) _ _ (stands_for accepts d (now (g.D.Disk.moments c.args.disk.now) 2).reads) c.in_err-ledger.field-0.0 later c.in_err-ledger.ensures.cause)
 
 pub returns-in_err-ledger-clause-any_moment : goal.returns-in_err-ledger-clause-any_moment
@@ -82,7 +82,7 @@ pub returns-then-is_empty-clause-kept : goal.returns-then-is_empty-clause-kept
 returns-then-is_empty-clause-kept g c = λ t. c.in_ok-ledger.ensures.kept (subst IsTrue (sym c.open.ensures.tells) t)
 
 pub returns-then-is_empty-clause-config : goal.returns-then-is_empty-clause-config
-returns-then-is_empty-clause-config g c = subst (λ (x : Config). IsGenesis x c.args.genesis.now) (sym c.in_ok-ledger.ensures.value.1) c.in_ok-config.ensures
+returns-then-is_empty-clause-config g c = subst (λ (x : Config). IsGenesisBlock x c.args.genesis.now) (sym c.in_ok-ledger.ensures.value.1) c.in_ok-config.ensures
 
 pub returns-then-is_empty-clause-chain : goal.returns-then-is_empty-clause-chain
 returns-then-is_empty-clause-chain g c = begun_chain (g.V.Verifier.accepts c.args.verifier.now) c.in_ok-config.config _ _ c.in_ok-ledger.ensures.value.0 c.in_ok-ledger.ensures.value.1
@@ -116,7 +116,7 @@ returns-in_err-blocks-clause-value g c = λ d is t.
     let opened = c.in_ok-log.ensures.value t in
     let same = one_config c.in_ok-config.config d c.args.genesis.now c.in_ok-config.ensures is in
     let stored = stands_opened accepts d (now (g.D.Disk.moments c.args.disk.now) 2).reads log.generation log.entries opened ∙ ap (λ (x : Config). read_chain accepts x log.entries) (sym same) ∙ ap (read_chain accepts c.in_ok-config.config) (sym c.entries-2.ensures) in
-    handed (OpensTo (stands_for accepts d (now (g.D.Disk.moments c.args.disk.now) 2).reads)) c.from_residual-in_err-blocks.result _ c.from_residual-in_err-blocks.ensures
+    handed (LedgerOpensTo (stands_for accepts d (now (g.D.Disk.moments c.args.disk.now) 2).reads)) c.from_residual-in_err-blocks.result _ c.from_residual-in_err-blocks.ensures
     (bad_value (stands_for accepts d (now (g.D.Disk.moments c.args.disk.now) 2).reads) c.in_err-blocks.field-0.0 (subst (λ s. TellsBad s c.in_err-blocks.field-0.0) (sym stored) c.in_err-blocks.ensures))
 
 pub returns-in_err-blocks-clause-any_moment : goal.returns-in_err-blocks-clause-any_moment
@@ -142,7 +142,7 @@ returns-clause-kept g c = λ t.
 
 pub returns-clause-config : goal.returns-clause-config
 unfolding first_config
-returns-clause-config g c = subst (λ (x : Config). IsGenesis x c.args.genesis.now) (sym c.in_ok-blocks.ensures.config) c.in_ok-config.ensures
+returns-clause-config g c = subst (λ (x : Config). IsGenesisBlock x c.args.genesis.now) (sym c.in_ok-blocks.ensures.config) c.in_ok-config.ensures
 
 pub returns-clause-chain : goal.returns-clause-chain
 unfolding blocks_of first_config

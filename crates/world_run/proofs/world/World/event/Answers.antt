@@ -27,7 +27,7 @@ returns-in-Ok-clause-takes g c =
     let after = c.step.new.keys in
     let is = is_read old c.args.place read c.requires.runs c.index.ensures in
     event_went c.follow.result (g.N.Nodes.at c.args.nodes.now) (g.N.Nodes.at c.step.new.self) old _ c.follow.new.self c.args.place read c.args.event c.give_seat.new.self.outside.seat after c.in-Ok.out
-    c.deeds_are_found.ensures.steps c.requires.sound is.has is.runs (ap (λ (w : World). w.outside.seat) given) c.in-Ok.ensures c.follow.ensures.follows
+    c.requires.sound is.has is.runs (ap (λ (w : World). w.outside.seat) given) c.in-Ok.ensures c.follow.ensures.follows
     (record {
       config = ap (λ (w : World). w.config) given;
       byzantine = ap (λ (w : World). w.byzantine) given;
@@ -56,7 +56,7 @@ returns-in_ok-fail-in-Err-Disk-clause-takes g c =
     let is = is_read old c.args.place read c.requires.runs c.index.ensures in
     let steps = subst (λ (fault : NodeFault). StepsAt at lodging read.id c.args.event seat after (Err fault)) c.in-Err-Disk.field-0-is c.in-Err-Disk.ensures in
     event_failed at lodging (g.N.Nodes.at c.fail.new.nodes) old _ c.fail.new.self c.args.place read c.args.event seat after
-    c.deeds_are_found.ensures.deeds c.deeds_are_found.ensures.done c.deeds_are_found.ensures.model c.requires.sound is.has (ap (λ (w : World). w.outside.seat) given) steps
+    c.requires.sound is.has (ap (λ (w : World). w.outside.seat) given) steps
     c.in_ok-fail-in-Err-Disk.ensures.armed c.in_ok-fail-in-Err-Disk.ensures.crashes
     (record {
       config = ap (λ (w : World). w.config) given;

@@ -25,7 +25,7 @@ returns-clause-crashes g c =
       | else-index w ↦ absurd (let e : true ≡ false = sym c.if-not-stopped.false ∙ w.value-is ∙ w.if-index.false in cc)
     ] in
     on_ok_weaker c.crash.result
-    (λ (crashed : (member : Member) → slice_get old.members.items c.args.place ≡ Some member → Crashes mid next old new c.args.place member disk Keep) (member : Member) (failed : Lodged) has there.
+    (λ (crashed : (member : Member) → slice_get old.members.items c.args.place ≡ Some member → Crashes mid next old new c.args.place member disk Keep) (member : Member) has (failed : Lodged) there.
     let id = ap (λ (m : Member). m.id) (read_is old.members.items c.args.place member c.index.result.now has c.index.ensures) in
     let same = disk_of (at c.index.result.now.id) failed disk c.stop-disk.ensures.disk (ap at id ∙ there) in
     let gone = subst (λ i. Becomes at mid i None) id c.stop-disk.ensures.gone in (

@@ -20,8 +20,8 @@ loop-place-preserved g c =
     elim c.if-not-contains.branch [
       | then-not-contains+in_ok-open_member r ↦
           rw (r.self-is, r.nodes-is)
-          (has_more c.deeds_are_found.ensures.first c.deeds_are_found.ensures.model before at (g.N.Nodes.at r.open_member.new.nodes) old w r.open_member.new.self k id
-          c.requires.ids.ascending within is (sym found ∙ r.if-not-contains.true) r.in_ok-open_member.ensures so_far)
+          (has_more c.nodes_are_found.ensures.empty before at (g.N.Nodes.at r.open_member.new.nodes) old w r.open_member.new.self k id
+          c.requires.config c.requires.ids.ascending within is (sym found ∙ r.if-not-contains.true) r.in_ok-open_member.ensures so_far)
       | else-not-contains r ↦ rw (r.self-is, r.nodes-is) (has_skipped before at old w k id within is (sym found ∙ r.if-not-contains.false) so_far)
     ]
 

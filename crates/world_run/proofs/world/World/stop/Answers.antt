@@ -15,14 +15,14 @@ returns-clause-sound g c =
     let there = c.requires.there in
     stopped_sound c.crash.result (g.N.Nodes.at c.args.nodes.now) (g.N.Nodes.at c.crash.new.nodes) old c.crash.new.self c.args.place there
     (stops_here c.crash.result (g.N.Nodes.at c.args.nodes.now) (g.N.Nodes.at c.stop-disk.new.self) (g.N.Nodes.at c.crash.new.nodes) old c.crash.new.self c.args.place c.index.result.now c.stop-disk.result c.args.image
-    c.stored_deeds_stand.ensures.crash c.deeds_are_found.ensures.model c.requires.sound c.index.ensures c.stop-disk.ensures.disk c.stop-disk.ensures.gone c.crash.ensures)
+    c.nodes_are_found.ensures.crash c.requires.sound c.index.ensures c.stop-disk.ensures.disk c.stop-disk.ensures.gone c.crash.ensures)
 
 pub returns-clause-plays : goal.returns-clause-plays
 returns-clause-plays g c =
     let old = c.args.self.now in
     stopped_plays c.crash.result (g.N.Nodes.at c.args.nodes.now) (g.N.Nodes.at c.crash.new.nodes) old c.crash.new.self c.args.place
     (stops_here c.crash.result (g.N.Nodes.at c.args.nodes.now) (g.N.Nodes.at c.stop-disk.new.self) (g.N.Nodes.at c.crash.new.nodes) old c.crash.new.self c.args.place c.index.result.now c.stop-disk.result c.args.image
-    c.stored_deeds_stand.ensures.crash c.deeds_are_found.ensures.model c.requires.sound c.index.ensures c.stop-disk.ensures.disk c.stop-disk.ensures.gone c.crash.ensures)
+    c.nodes_are_found.ensures.crash c.requires.sound c.index.ensures c.stop-disk.ensures.disk c.stop-disk.ensures.gone c.crash.ensures)
 
 pub returns-clause-number : goal.returns-clause-number
 returns-clause-number g c =

@@ -21,7 +21,7 @@ invariant_of-self-2 c =
     record { within = w.within; passed = waits_set w.config w.config w.first_waiting w.members.items w.outside.network.items c.args.place read _ has refl (λ runs. runs) w.passed }
 
 pub returns-clause-turned : goal.returns-clause-turned
-returns-clause-turned c = λ at later member has.
+returns-clause-turned c = λ at member has later.
     let w = c.args.self.now in
     let read = c.index_mut-member.result.now in
     submitted_turn at w later c.args.to c.args.place c.args.word.now read member _ _ _ _ (where_running c.args.to w.members.items c.args.place c.requires).first has c.index_mut-member.ensures.value refl

@@ -1,4 +1,4 @@
-use Rattle.bft_node.specs.declared.live.Event.TheVariants.{FromMember}
+use Rattle.node_model.specs.declared.event.Event.TheVariants.{FromMember}
 use Rattle.world_run.proofs.EventLemmas.{took_number, took_plays, took_sound}
 use Rattle.world_run.proofs.world.World.take_at.Goals as goal
 

@@ -1,4 +1,4 @@
-use Rattle.bft_node.specs.declared.live.Event.TheVariants.{Tick}
+use Rattle.node_model.specs.declared.event.Event.TheVariants.{Tick}
 use Rattle.world_run.proofs.EventLemmas.{took_number, took_sound, took_tick}
 use Rattle.world_run.proofs.world.World.tick_at.Goals as goal
 
