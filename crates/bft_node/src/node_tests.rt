@@ -192,9 +192,15 @@ fn a_member_alone_delivers(rt: HostRuntime) -> Result<(), Fail> {
     let setup = setup_of_one(alloc)?;
     let mut seat = SealBox::new(alloc)?.seat(7);
     let mut quiet = empty(alloc)?;
-    assert_eq!(rt; open_again(alloc, &setup, &mut quiet, &mut seat)?, wanted_again(0));
+    assert_eq!(rt;
+        open_again(alloc, &setup, &mut quiet, &mut seat)?,
+        wanted_again(0)
+    );
     let mut left = crashed(quiet, Image::Undo)?;
-    assert_eq!(rt; open_again(alloc, &setup, &mut left, &mut seat)?, wanted_again(3));
+    assert_eq!(rt;
+        open_again(alloc, &setup, &mut left, &mut seat)?,
+        wanted_again(3)
+    );
     Ok(())
 }
 
