@@ -368,43 +368,6 @@ number-at_place place w lt =
       | inl e ↦ elim (cases_Bool (w.height == place.height)) [ inl h ↦ rw (e, h) lt | inr h ↦ rw (e, h) lt ]
     ]
 
-number-after_act : (act : Act) (w : View) → IsNumber w.view → IsNumber (after_act act w).view
-number-after_act (act_of.Accept b) w h = h
-number-after_act (act_of.Prepare d) w h = h
-number-after_act (act_of.Deliver b cert) w h = h
-number-after_act act_of.Kept w h = h
-number-after_act (act_of.Nothing r) w h = h
-
-number-kept_after : (accepts : Accepts) (place : Place) (w : View) (letter : Letter) → IsNumber w.view → IsNumber (kept_after accepts place w letter).view
-number-kept_after accepts place w letter h = elim (cases_Bool (is_new accepts place w letter)) [ inl e ↦ rw e h | inr e ↦ rw e h ]
-
--- with another view of this member, at the place
-pub with_view : (r : Running) (v w : View) → IsSound r → v ≡ w → w.me ≡ r.view.me → StandsAt (place_of r) w → IsNumber w.view → IsSound (record r { view = v })
-with_view r v w s same me at number =
-    record {
-      me = ap (λ (x : View). x.me) same ∙ me ∙ s.me;
-      place = s.place;
-      at = subst (λ (x : View). StandsAt (place_of r) x) (sym same) at;
-      config = s.config;
-      view = subst (λ (x : View). IsNumber x.view) (sym same) number;
-    }
-
--- at the place
-pub placed_sound : (r : Running) (v : View) (p : Place) → IsSound r → p ≡ place_of r → v ≡ at_place p r.view → IsSound (record r { view = v })
-placed_sound r v p s here is =
-    with_view r v (at_place (place_of r) r.view) s (is ∙ ap (λ (q : Place). at_place q r.view) here) (me-at_place (place_of r) r.view) (StandsAt-at_place (place_of r) r.view) (number-at_place (place_of r) r.view s.view)
-
--- after a vote message
-pub voted_sound : (accepts : Accepts) (letter : Letter) (r : Running) (v : View) (p : Place) → IsSound r → p ≡ place_of r → v ≡ after_vote accepts p r.view letter → IsSound (record r { view = v })
-voted_sound accepts letter r v p s here is =
-    let place = place_of r in
-    let at = at_place place r.view in
-    let act = vote_answer accepts place at letter in
-    with_view r v (after_vote accepts place r.view letter) s (is ∙ ap (λ (q : Place). after_vote accepts q r.view letter) here)
-    (me-after_act act (kept_after accepts place at letter) ∙ me-kept_after accepts place at letter ∙ me-at_place place r.view)
-    (StandsAt-after_act place act (kept_after accepts place at letter) (StandsAt-kept_after accepts place at letter (StandsAt-at_place place r.view)))
-    (number-after_act act (kept_after accepts place at letter) (number-kept_after accepts place at letter (number-at_place place r.view s.view)))
-
 -- the place's configuration stays as it is behind a block
 config_stays : (p : Place) (b : Block) (proof : Proof) → IsNumber p.config.number
     → IsNumber (next_place p (b, proof)).config.number

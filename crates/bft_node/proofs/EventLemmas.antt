@@ -96,6 +96,7 @@ use Rattle.bft_node.specs.Making.{
   view_in,
 }
 use Rattle.bft_node.specs.NodeFaults.{TouchesNoDisk}
+use Rattle.bft_node.specs.Outcomes.{StaysSound}
 use Rattle.bft_node.specs.Running.{IsReady, IsSound, as_found, place_of, state_of}
 use Rattle.bft_node.specs.Stores.{config_of, held_of}
 use Rattle.bft_node.specs.declared.live.Running.{Running}
@@ -164,6 +165,10 @@ view_sound r w s h =
 
 pub view_ready : (r : Running) (w : View) → IsViewOf r w → (tells : Bool) (moments : List State) → IsReady tells moments r → IsReady tells moments (with_view r w)
 view_ready r w h tells moments ready = record { sound = view_sound r w ready.sound h; kept = ready.kept }
+
+pub view_stays : (r : Running) (w : View) → IsSound r → IsViewOf r w → StaysSound r (with_view r w)
+view_stays r w s h =
+    record { same = record { id = refl; config = refl }; sound = view_sound r w s h; ready = view_ready r w h }
 
 pub whatever : {T E : Type 0} (r : Result T E) (P Q R : Type 0) → OnOk r P → OnErr r Q → (P → R) → (Q → R) → R
 whatever (Ok x) P Q R p q f g = f p

@@ -111,9 +111,6 @@ IfOk-with (Err e) P S Q f p q = tt
 abbrev pub front_of : {A : Type 0} (xs : List A) → IsFront xs xs
 front_of xs = ([], append-nil xs)
 
-abbrev pub front_more : {A : Type 0} (xs ys : List A) → IsFront xs (xs ++ ys)
-front_more xs ys = (ys, refl)
-
 abbrev pub front_then : {A : Type 0} (xs ys zs : List A) → IsFront xs ys → IsFront ys zs → IsFront xs zs
 front_then xs ys zs f g = (f.0 ++ g.0, sym (append_assoc xs f.0 g.0) ∙ ap (λ l. l ++ g.0) f.1 ∙ g.1)
 
@@ -367,11 +364,6 @@ makes_view b made told next r new a h id store found view =
       went = h.went;
     }
 
--- the told act by its name
-pub told_as : (b : Before) (made : List Entry) (told next : Act) (r : Running) (a : Around) → told ≡ next
-    → Makes b made told r a → Makes b made next r a
-told_as b made told next r a same h = subst (λ (x : Act). Makes b made x r a) same h
-
 -- the entries by another name
 pub makes_as : (b : Before) (one two : List Entry) (told : Act) (r : Running) (a : Around) → one ≡ two
     → Makes b one told r a → Makes b two told r a
@@ -407,13 +399,6 @@ stopped_by b one two signed all old new t u moments one_fault fault step stateme
     (subst (λ (a : Accepts). IsStopped b one signed a u moments fault) (sym accepts)
     (subst (λ (v : Bool). IsStopped b one signed old v moments fault) (sym tells)
     (subst (λ (e : NodeFault). IsStopped b one signed old t moments e) (sym same) s))))
-
--- the fault alone
-pub stopped_fault : (b : Before) (made : List Entry) (signed : List (List ℕ)) (accepts : Accepts) (tells : Bool)
-    (moments : List State) (one fault : NodeFault) → fault ≡ one
-    → IsStopped b made signed accepts tells moments one → IsStopped b made signed accepts tells moments fault
-stopped_fault b made signed accepts tells moments one fault same s =
-    subst (λ (e : NodeFault). IsStopped b made signed accepts tells moments e) (sym same) s
 
 -- the signed statements alone
 pub stopped_said : (b : Before) (made : List Entry) (signed : List (List ℕ)) (accepts : Accepts) (tells : Bool)

@@ -55,7 +55,8 @@ use Rattle.bft_node.specs.Making.{
   sent_to_others,
   view_in,
 }
-use Rattle.bft_node.specs.Running.{IsReady, as_found, place_of}
+use Rattle.bft_node.specs.Outcomes.{StaysSound}
+use Rattle.bft_node.specs.Running.{IsReady, IsSound, as_found, place_of}
 use Rattle.bft_node.specs.Signings.{Grows, KeysFit, Signing, statements_in}
 use Rattle.bft_node.specs.declared.live.Found.{Found as Kept}
 use Rattle.bft_node.specs.declared.live.Out.{Out}
@@ -172,18 +173,19 @@ module _ (b : Before) (made : List Entry) (old : Running) (accepts : Accepts) (t
       ∙ append_assoc made votes (commits b.keys (statements_of made) core (block_hash f.block))
 
 -- whatever was found
+sound_taken : (r : Running) (found : Option Kept) → IsSound r → IsSound (record r { found = found })
+sound_taken r found s = record { me = s.me; place = s.place; at = s.at; config = s.config; view = s.view }
+
 pub ready_taken : (tells : Bool) (moments : List State) (r : Running) (found : Option Kept) → IsReady tells moments r
     → IsReady tells moments (record r { found = found })
-ready_taken tells moments r found ready =
+ready_taken tells moments r found ready = record { sound = sound_taken r found ready.sound; kept = ready.kept }
+
+pub taken_stays : (r : Running) (found : Option Kept) → IsSound r → StaysSound r (record r { found = found })
+taken_stays r found s =
     record {
-      sound = record {
-        me = ready.sound.me;
-        place = ready.sound.place;
-        at = ready.sound.at;
-        config = ready.sound.config;
-        view = ready.sound.view;
-      };
-      kept = ready.kept;
+      same = record { id = refl; config = refl };
+      sound = sound_taken r found s;
+      ready = λ tells moments ready. ready_taken tells moments r found ready;
     }
 
 abbrev pub without_found : Running → Running

@@ -180,17 +180,6 @@ preparation_due-accepted place w d e =
       | inr f ↦ (let no : None ≡ Some d = rw f at e in cc)
     ]
 
--- A NODE THAT STANDS NOWHERE YET
-
-no_members : (ms : List ℕ) → 1 ≤ length ms → bytes_eq [] ms ≡ false
-no_members [] h = absurd (omega arith)
-no_members (m ∷ ms) h = refl
-
-pub at_place-unplaced : (id : ℕ) (place : Place) → 1 ≤ length place.config.members → at_place place (unplaced id) ≡ fresh id place
-at_place-unplaced id place h =
-    let other : is_same_config place (unplaced id) ≡ false = and_right (0 == place.config.number) (bytes_eq [] place.config.members) (no_members place.config.members h) in
-    rw other
-
 -- A PREPARE
 
 prepare_told : (p : Option (List ℕ)) (b : Bool) (o : Option Reason) (r : Reason) (d : List ℕ) → act_or (prepare_act p) (kept_or b o r) ≡ act_of.Prepare d → p ≡ Some d
@@ -232,9 +221,3 @@ module _ (accepts : Accepts) (place : Place) (w : View) (from : ℕ) (message : 
 
   pub left-kept : ((d : List ℕ) → act ≡ act_of.Prepare d → ⊥) → left ≡ kept_view
   left-kept h = left_here ∙ ap (λ a. after_act a kept_view) answer_here ∙ prepare_not_told (preparation_due place kept_view) _ _ _ kept_view (λ d e. h d (answer_here ∙ e))
-
-  pub left-at : StandsAt place left
-  left-at = subst (λ v. StandsAt place v) (sym left_here) (StandsAt-after_act place act kept_view (StandsAt-kept_after accepts place w (record { from = from; message = message_of.Prepare message }) at))
-
-  pub left-me : left.me ≡ w.me
-  left-me = ap (λ (v : View). v.me) left_here ∙ me-after_act act kept_view ∙ me-kept_after accepts place w (record { from = from; message = message_of.Prepare message })

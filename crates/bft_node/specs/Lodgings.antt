@@ -124,8 +124,8 @@ StepsAt before after id event keys keys_then result =
     (old : Lodged) → before id ≡ Some old
     → (new : Lodged) × IsStepOf old new event keys keys_then result × Becomes before after id (Some new)
 
--- A node with its disk after a read: the node is the same, the files and the arm of its disk too. So it is
--- kept, and holds what it did, where it was and did.
+-- A node with its disk after a read: the node is the same, and the files and the arm of its disk are. So it is
+-- kept, and holds what it did, where that was so before.
 pub record IsRead (old new : Lodged) : Type 0 where
   pub node : new.node ≡ old.node
   pub disk : IsUncounted old.disk new.disk

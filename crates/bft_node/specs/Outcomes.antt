@@ -2,7 +2,7 @@
 use Rattle.std.specs.Prelude.{◌≡◌, ℕ, ◌≤◌, Bool, List, OnOk, Result}
 use Rattle.gate_log.specs.Disk.{State}
 use Rattle.bft_node.specs.NodeFaults.{HasNodeCause, counts}
-use Rattle.bft_node.specs.Running.{IsReady, IsSame}
+use Rattle.bft_node.specs.Running.{IsReady, IsSame, IsSound}
 use Rattle.bft_node.specs.declared.live.Running.{Running}
 use Rattle.bft_node.specs.declared.node_fault.NodeFault.{NodeFault}
 
@@ -25,3 +25,9 @@ pub record KeepsRunning {T : Type 0} (result : Result T NodeFault) (old new : Ru
   pub tells : after.tells ≡ before.tells
   pub later : (before.disk ≤ after.disk) × (before.keys ≤ after.keys)
   pub cause : HasNodeCause (counts before.disk before.keys) (counts after.disk after.keys) result
+
+-- A call that touches no disk: the same node, which keeps true what it kept, and is ready where it was.
+pub record StaysSound (old new : Running) : Type 0 where
+  pub same : IsSame old new
+  pub sound : IsSound new
+  pub ready : (tells : Bool) (moments : List State) → IsReady tells moments old → IsReady tells moments new

@@ -24,6 +24,7 @@ ghost use Rattle.bft_node.specs.Calls.{
 ghost use Rattle.bft_node.specs.Commits.{Commits, SignsAtMost, commit_at, statement_at};
 ghost use Rattle.bft_node.specs.Making.{GoesOn};
 ghost use Rattle.bft_node.specs.NodeFaults.{HasNodeCause, TouchesNoDisk, counts};
+ghost use Rattle.bft_node.specs.Outcomes.{KeepsRunning, StaysSound, devices};
 ghost use Rattle.bft_node.specs.Running.{IsReady, IsSame, IsSound, state_of};
 ghost use Rattle.bft_node.specs.Signings.{Signs, signing};
 
@@ -39,10 +40,7 @@ impl Running {
     /// The act that is due now.
     pub(crate) fn told<V: Verifier>(&mut self, keys: &V) -> Result<Act, NoMemory>
         requires { IsSound self.old }
-        ensures same { IsSame self.old self.new }
-        ensures sound { IsSound self.new }
-        ensures ready { (tells : Bool) (moments : Items State)
-            → IsReady tells moments self.old → IsReady tells moments self.new }
+        ensures stays { StaysSound self.old self.new }
         ensures fits { IfOk result FitsAct }
         ensures told { IfOk result
             (λ told. TellsDue (V.accepts keys.now) (state_of self.old) told self.old self.new) }
@@ -59,8 +57,9 @@ impl Running {
         out: &mut Out,
     ) -> Result<Act, NodeFault>
         requires { IsReady (D.tells disk.old) (D.moments disk.old) self.old }
-        ensures same { OnOk result (IsSame self.old self.new) }
-        ensures ready { OnOk result (IsReady (D.tells disk.new) (D.moments disk.new) self.new) }
+        ensures runs { KeepsRunning result self.old self.new
+            (devices (D.tells disk.old) (D.moments disk.old) (D.faults disk.old) 0)
+            (devices (D.tells disk.new) (D.moments disk.new) (D.faults disk.new) 0) }
         ensures fits { IfOk result FitsAct }
         ensures makes { AddsRule (V.accepts keys.now) (does_duty (duty_of.Accept block)) result
             (Taken (act_of.Accept block)) Telling
@@ -68,9 +67,6 @@ impl Running {
             (stage self.new tt (D.tells disk.new) (D.moments disk.new) out.new) }
         ensures next { IfOk result (λ next. DoesDuty (V.accepts keys.now) (duty_of.Accept block)
             (act_of.Accept block) next self.old self.new) }
-        ensures tells { D.tells disk.new ≡ D.tells disk.old }
-        ensures later { D.faults disk.old ≤ D.faults disk.new }
-        ensures cause { HasNodeCause (counts (D.faults disk.old) 0) (counts (D.faults disk.new) 0) result }
     {
         let accepted = block.copy()?;
         self.keep_acceptance(accepted, disk, out)?;
@@ -113,10 +109,7 @@ impl Running {
         out: &mut Out,
     ) -> Result<Act, NodeFault>
         requires { IsSound self.old }
-        ensures same { IsSame self.old self.new }
-        ensures sound { IsSound self.new }
-        ensures ready { (tells : Bool) (moments : Items State)
-            → IsReady tells moments self.old → IsReady tells moments self.new }
+        ensures stays { StaysSound self.old self.new }
         ensures fits { IfOk result FitsAct }
         ensures signs { Signs K.sign_gives result keys.old keys.new (λ signings. GoesOn result
             (λ told. Commits digest told self.old self.new (K.accepts keys.new) keys.new signings out.old
@@ -143,8 +136,9 @@ impl Running {
         out: &mut Out,
     ) -> Result<Act, NodeFault>
         requires { IsReady (D.tells disk.old) (D.moments disk.old) self.old }
-        ensures same { OnOk result (IsSame self.old self.new) }
-        ensures ready { OnOk result (IsReady (D.tells disk.new) (D.moments disk.new) self.new) }
+        ensures runs { KeepsRunning result self.old self.new
+            (devices (D.tells disk.old) (D.moments disk.old) (D.faults disk.old) (K.faults keys.old))
+            (devices (D.tells disk.new) (D.moments disk.new) (D.faults disk.new) (K.faults keys.new)) }
         ensures fits { IfOk result FitsAct }
         ensures makes { Signs K.sign_gives result keys.old keys.new (MakesRule K.accepts
             (does_duty (duty_of.Prepare digest)) result (Taken (act_of.Prepare digest)) Telling
@@ -152,10 +146,6 @@ impl Running {
             (stage self.new keys.new (D.tells disk.new) (D.moments disk.new) out.new)) }
         ensures next { IfOk result (λ next. DoesDuty (K.accepts keys.new) (duty_of.Prepare digest)
             (act_of.Prepare digest) next self.old self.new) }
-        ensures tells { D.tells disk.new ≡ D.tells disk.old }
-        ensures later { (D.faults disk.old ≤ D.faults disk.new) × (K.faults keys.old ≤ K.faults keys.new) }
-        ensures cause { HasNodeCause (counts (D.faults disk.old) (K.faults keys.old))
-            (counts (D.faults disk.new) (K.faults keys.new)) result }
     {
         self.keep_preparation(digest, disk, out)?;
         self.commit(digest, keys, out)
@@ -171,8 +161,9 @@ impl Running {
         out: &mut Out,
     ) -> Result<Act, NodeFault>
         requires { IsReady (D.tells disk.old) (D.moments disk.old) self.old }
-        ensures same { OnOk result (IsSame self.old self.new) }
-        ensures ready { OnOk result (IsReady (D.tells disk.new) (D.moments disk.new) self.new) }
+        ensures runs { KeepsRunning result self.old self.new
+            (devices (D.tells disk.old) (D.moments disk.old) (D.faults disk.old) 0)
+            (devices (D.tells disk.new) (D.moments disk.new) (D.faults disk.new) 0) }
         ensures fits { IfOk result FitsAct }
         ensures makes { AddsRule (V.accepts keys.now) (does_duty (duty_of.Deliver block cert)) result
             (Taken (act_of.Deliver block cert)) Telling
@@ -180,9 +171,6 @@ impl Running {
             (stage self.new tt (D.tells disk.new) (D.moments disk.new) out.new) }
         ensures next { IfOk result (λ next. DoesDuty (V.accepts keys.now) (duty_of.Deliver block cert)
             (act_of.Deliver block cert) next self.old self.new) }
-        ensures tells { D.tells disk.new ≡ D.tells disk.old }
-        ensures later { D.faults disk.old ≤ D.faults disk.new }
-        ensures cause { HasNodeCause (counts (D.faults disk.old) 0) (counts (D.faults disk.new) 0) result }
     {
         self.keep_delivery(block, cert, disk, keys, out)?;
         self.view.go_to(self.store.ledger.place());
@@ -200,8 +188,9 @@ impl Running {
         requires ready { IsReady (D.tells disk.old) (D.moments disk.old) self.old }
         requires fits { FitsAct told }
         requires due { IsToldDue (K.accepts keys.old) told self.old }
-        ensures same { OnOk result (IsSame self.old self.new) }
-        ensures ready { OnOk result (IsReady (D.tells disk.new) (D.moments disk.new) self.new) }
+        ensures runs { KeepsRunning result self.old self.new
+            (devices (D.tells disk.old) (D.moments disk.old) (D.faults disk.old) (K.faults keys.old))
+            (devices (D.tells disk.new) (D.moments disk.new) (D.faults disk.new) (K.faults keys.new)) }
         ensures fits { IfOk result FitsAct }
         ensures makes { Signs K.sign_gives result keys.old keys.new (MakesRule K.accepts
             (does_act told) result (Telling told) Telling
@@ -210,10 +199,6 @@ impl Running {
         ensures due { IfOk result (λ next. IsToldDue (K.accepts keys.new) next self.new) }
         ensures fewer { IfOk result
             (λ next. IsTrue (tells_act told) → still_with next self.new < still_with told self.old) }
-        ensures tells { D.tells disk.new ≡ D.tells disk.old }
-        ensures later { (D.faults disk.old ≤ D.faults disk.new) × (K.faults keys.old ≤ K.faults keys.new) }
-        ensures cause { HasNodeCause (counts (D.faults disk.old) (K.faults keys.old))
-            (counts (D.faults disk.new) (K.faults keys.new)) result }
     {
         match told {
             Act::Accept(block) => self.accept(block, disk, keys, out),
@@ -234,16 +219,13 @@ impl Running {
         requires ready { IsReady (D.tells disk.old) (D.moments disk.old) self.old }
         requires fits { FitsAct told }
         requires due { IsToldDue (K.accepts keys.old) told self.old }
-        ensures same { OnOk result (IsSame self.old self.new) }
-        ensures ready { OnOk result (IsReady (D.tells disk.new) (D.moments disk.new) self.new) }
+        ensures runs { KeepsRunning result self.old self.new
+            (devices (D.tells disk.old) (D.moments disk.old) (D.faults disk.old) (K.faults keys.old))
+            (devices (D.tells disk.new) (D.moments disk.new) (D.faults disk.new) (K.faults keys.new)) }
         ensures makes { Signs K.sign_gives result keys.old keys.new (MakesRule K.accepts
             all_due result (Telling told) (λ _. Quiet)
             (stage self.old keys.old (D.tells disk.old) (D.moments disk.old) out.old)
             (stage self.new keys.new (D.tells disk.new) (D.moments disk.new) out.new)) }
-        ensures tells { D.tells disk.new ≡ D.tells disk.old }
-        ensures later { (D.faults disk.old ≤ D.faults disk.new) × (K.faults keys.old ≤ K.faults keys.new) }
-        ensures cause { HasNodeCause (counts (D.faults disk.old) (K.faults keys.old))
-            (counts (D.faults disk.new) (K.faults keys.new)) result }
     {
         if !is_act(&told) {
             return Ok(());

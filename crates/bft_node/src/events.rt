@@ -13,7 +13,7 @@ ghost use Rattle.node_model.specs.Steps.{own_rule, proposes};
 ghost use Rattle.view_core.specs.Fits.{FitsAct};
 ghost use Rattle.bft_node.specs.Calls.{AddsRule, MakesStep, Quiet, Taken, TellsDue, stage};
 ghost use Rattle.bft_node.specs.NodeFaults.{HasNodeCause, counts};
-ghost use Rattle.bft_node.specs.Outcomes.{KeepsRunning, devices};
+ghost use Rattle.bft_node.specs.Outcomes.{KeepsRunning, StaysSound, devices};
 ghost use Rattle.bft_node.specs.Running.{IsReady, IsSame, IsSound, state_of};
 ghost use Rattle.bft_node.specs.Signings.{Signs};
 
@@ -51,16 +51,14 @@ impl Running {
     ) -> Result<(), NodeFault>
         requires ready { IsReady (D.tells disk.old) (D.moments disk.old) self.old }
         requires fits { FitsBlock block }
-        ensures same { OnOk result (IsSame self.old self.new) }
-        ensures ready { OnOk result (IsReady (D.tells disk.new) (D.moments disk.new) self.new) }
+        ensures runs { KeepsRunning result self.old self.new
+            (devices (D.tells disk.old) (D.moments disk.old) (D.faults disk.old) 0)
+            (devices (D.tells disk.new) (D.moments disk.new) (D.faults disk.new) 0) }
         ensures makes { (accepts : SomeAccepts)
             → AddsRule accepts (λ _ _ c. proposes (Some block) c) result (Taken (act_of.Accept block))
             (λ _. Quiet)
             (stage self.old tt (D.tells disk.old) (D.moments disk.old) out.old)
             (stage self.new tt (D.tells disk.new) (D.moments disk.new) out.new) }
-        ensures tells { D.tells disk.new ≡ D.tells disk.old }
-        ensures later { D.faults disk.old ≤ D.faults disk.new }
-        ensures cause { HasNodeCause (counts (D.faults disk.old) 0) (counts (D.faults disk.new) 0) result }
     {
         let accepted = block.copy()?;
         self.keep_acceptance(accepted, disk, out)?;
@@ -77,14 +75,12 @@ impl Running {
         out: &mut Out,
     ) -> Result<(), NodeFault>
         requires { IsReady (D.tells disk.old) (D.moments disk.old) self.old }
-        ensures same { OnOk result (IsSame self.old self.new) }
-        ensures ready { OnOk result (IsReady (D.tells disk.new) (D.moments disk.new) self.new) }
+        ensures runs { KeepsRunning result self.old self.new
+            (devices (D.tells disk.old) (D.moments disk.old) (D.faults disk.old) 0)
+            (devices (D.tells disk.new) (D.moments disk.new) (D.faults disk.new) 0) }
         ensures makes { AddsRule (V.accepts keys.now) (λ _. own_rule (Tick offer)) result Quiet (λ _. Quiet)
             (stage self.old tt (D.tells disk.old) (D.moments disk.old) out.old)
             (stage self.new tt (D.tells disk.new) (D.moments disk.new) out.new) }
-        ensures tells { D.tells disk.new ≡ D.tells disk.old }
-        ensures later { D.faults disk.old ≤ D.faults disk.new }
-        ensures cause { HasNodeCause (counts (D.faults disk.old) 0) (counts (D.faults disk.new) 0) result }
     {
         match self.view.propose(self.store.ledger.place(), offer, keys)? {
             Act::Accept(block) => self.accept_own(block, disk, out),
@@ -101,15 +97,12 @@ impl Running {
         out: &mut Out,
     ) -> Result<(), NodeFault>
         requires { IsReady (D.tells disk.old) (D.moments disk.old) self.old }
-        ensures same { OnOk result (IsSame self.old self.new) }
-        ensures ready { OnOk result (IsReady (D.tells disk.new) (D.moments disk.new) self.new) }
+        ensures runs { KeepsRunning result self.old self.new
+            (devices (D.tells disk.old) (D.moments disk.old) (D.faults disk.old) (K.faults keys.old))
+            (devices (D.tells disk.new) (D.moments disk.new) (D.faults disk.new) (K.faults keys.new)) }
         ensures makes { Signs K.sign_gives result keys.old keys.new (MakesStep K.accepts (Tick offer) result
             (stage self.old keys.old (D.tells disk.old) (D.moments disk.old) out.old)
             (stage self.new keys.new (D.tells disk.new) (D.moments disk.new) out.new)) }
-        ensures tells { D.tells disk.new ≡ D.tells disk.old }
-        ensures later { (D.faults disk.old ≤ D.faults disk.new) × (K.faults keys.old ≤ K.faults keys.new) }
-        ensures cause { HasNodeCause (counts (D.faults disk.old) (K.faults keys.old))
-            (counts (D.faults disk.new) (K.faults keys.new)) result }
     {
         self.repeat(keys, out)?;
         self.propose(offer, disk, keys, out)?;
@@ -126,10 +119,7 @@ impl Running {
     ) -> Result<Act, NoMemory>
         requires sound { IsSound self.old }
         requires other { from ≢ self.old.id }
-        ensures same { IsSame self.old self.new }
-        ensures sound { IsSound self.new }
-        ensures ready { (tells : Bool) (moments : Items State)
-            → IsReady tells moments self.old → IsReady tells moments self.new }
+        ensures stays { StaysSound self.old self.new }
         ensures fits { IfOk result FitsAct }
         ensures told { IfOk result (λ told. (bytes : Items ℕ)
             → message_in bytes ≡ Some (message_of.Prepare message.now)
@@ -151,10 +141,7 @@ impl Running {
     fn hears<V: Verifier>(&mut self, from: u32, message: Message, keys: &V) -> Result<Act, NoMemory>
         requires sound { IsSound self.old }
         requires fits { FitsMessage message }
-        ensures same { IsSame self.old self.new }
-        ensures sound { IsSound self.new }
-        ensures ready { (tells : Bool) (moments : Items State)
-            → IsReady tells moments self.old → IsReady tells moments self.new }
+        ensures stays { StaysSound self.old self.new }
         ensures fits { IfOk result FitsAct }
         ensures told { IfOk result (λ told. (bytes : Items ℕ) → message_in bytes ≡ Some message
             → TellsDue (V.accepts keys.now)
@@ -182,10 +169,7 @@ impl Running {
     /// nothing.
     fn comes<V: Verifier>(&mut self, from: u32, bytes: &[u8], keys: &V) -> Result<Act, NoMemory>
         requires { IsSound self.old }
-        ensures same { IsSame self.old self.new }
-        ensures sound { IsSound self.new }
-        ensures ready { (tells : Bool) (moments : Items State)
-            → IsReady tells moments self.old → IsReady tells moments self.new }
+        ensures stays { StaysSound self.old self.new }
         ensures fits { IfOk result FitsAct }
         ensures told { IfOk result (λ told. TellsDue (V.accepts keys.now)
             (after_event (FromMember from bytes.now) (V.accepts keys.now) (state_of self.old))
@@ -229,15 +213,12 @@ impl Running {
         out: &mut Out,
     ) -> Result<(), NodeFault>
         requires { IsReady (D.tells disk.old) (D.moments disk.old) self.old }
-        ensures same { OnOk result (IsSame self.old self.new) }
-        ensures ready { OnOk result (IsReady (D.tells disk.new) (D.moments disk.new) self.new) }
+        ensures runs { KeepsRunning result self.old self.new
+            (devices (D.tells disk.old) (D.moments disk.old) (D.faults disk.old) (K.faults keys.old))
+            (devices (D.tells disk.new) (D.moments disk.new) (D.faults disk.new) (K.faults keys.new)) }
         ensures makes { Signs K.sign_gives result keys.old keys.new (MakesStep K.accepts (event) result
             (stage self.old keys.old (D.tells disk.old) (D.moments disk.old) out.old)
             (stage self.new keys.new (D.tells disk.new) (D.moments disk.new) out.new)) }
-        ensures tells { D.tells disk.new ≡ D.tells disk.old }
-        ensures later { (D.faults disk.old ≤ D.faults disk.new) × (K.faults keys.old ≤ K.faults keys.new) }
-        ensures cause { HasNodeCause (counts (D.faults disk.old) (K.faults keys.old))
-            (counts (D.faults disk.new) (K.faults keys.new)) result }
     {
         match event {
             Event::Tick { offer } => self.tick(offer, disk, keys, out),

@@ -30,6 +30,15 @@ fn config_of_one(alloc: Global) -> Result<Config, NoMemory>
     })
 }
 
+fn setup_of_one(alloc: Global) -> Result<Setup, NoMemory>
+    ensures { IfOk result (λ setup. IsGenesisConfig setup.genesis) }
+{
+    Ok(Setup {
+        me: 7,
+        genesis: config_of_one(alloc)?,
+    })
+}
+
 fn opened(
     alloc: Global,
     setup: &Setup,
@@ -115,10 +124,7 @@ fn found(node: &Node) -> Result<usize, NoMemory> {
 #[test]
 fn a_node_opens_again(rt: HostRuntime) -> Result<(), Fail> {
     let alloc = rt.alloc();
-    let setup = Setup {
-        me: 7,
-        genesis: config_of_one(alloc)?,
-    };
+    let setup = setup_of_one(alloc)?;
     let mut quiet = empty(alloc)?;
     let mut seat = SealBox::new(alloc)?.seat(7);
     let node = opened(alloc, &setup, &mut quiet, &mut seat)?;
@@ -131,38 +137,6 @@ fn a_node_opens_again(rt: HostRuntime) -> Result<(), Fail> {
     Ok(())
 }
 
-#[test]
-fn a_member_alone_delivers(rt: HostRuntime) -> Result<(), Fail> {
-    let alloc = rt.alloc();
-    let setup = Setup {
-        me: 7,
-        genesis: config_of_one(alloc)?,
-    };
-    let mut quiet = empty(alloc)?;
-    let mut seat = SealBox::new(alloc)?.seat(7);
-    let mut node = opened(alloc, &setup, &mut quiet, &mut seat)?;
-    assert_eq!(rt;
-        ticked(alloc, &mut node, 1, &mut quiet, &mut seat)?,
-        Ok(deeds(3))
-    );
-    assert_eq!(rt; found(&node)?, 3);
-    let mut left = crashed(quiet, Image::Undo)?;
-    let mut node = opened(alloc, &setup, &mut left, &mut seat)?;
-    assert_eq!(rt; found(&node)?, 3);
-    assert_eq!(rt;
-        ticked(alloc, &mut node, 0, &mut left, &mut seat)?,
-        Ok(deeds(0))
-    );
-    Ok(())
-}
-
-// The images of a stopped call, and whether the gate of an entry that was written is open in them.
-const IMAGES: [(Image, bool); 3] = [
-    (Image::Keep, true),
-    (Image::Undo, false),
-    (Image::Fill(0xff), true),
-];
-
 // How many deeds are still to be done where so many stand and the first was.
 fn left_to_do(found: usize) -> usize {
     match found {
@@ -172,43 +146,13 @@ fn left_to_do(found: usize) -> usize {
     }
 }
 
-// What a step came to whose disk stopped, and the next one, and the disk that it leaves.
-#[derive(Drop)]
-struct Stopped {
-    quiet: Quiet,
-    first: Result<Brought, NodeFault>,
-    second: Result<Brought, NodeFault>,
-    may_propose: bool,
-}
-
-fn stop(
-    alloc: Global,
-    setup: &Setup,
-    call: u32,
-    image: Image,
-    seat: &mut SealSeat,
-) -> Result<Stopped, Fail>
-    requires { IsGenesisConfig setup.now.genesis }
-{
-    let mut quiet = empty(alloc)?;
-    let mut node = opened(alloc, setup, &mut quiet, seat)?;
-    quiet.disk.arm(call, image);
-    let first = ticked(alloc, &mut node, 1, &mut quiet, seat)?;
-    let second = ticked(alloc, &mut node, 1, &mut quiet, seat)?;
-    Ok(Stopped {
-        quiet,
-        first,
-        second,
-        may_propose: node.may_propose(),
-    })
-}
-
-// How many deeds a node finds that is opened on a disk, what its first tick brings with nothing offered, and
-// the height in the end, with a request offered where nothing was found.
+// What a node finds that is opened on a disk, what its first tick brings with nothing offered, what the next one
+// brings with a request, and the height then.
 #[derive(Clone, Copy, Debug, PartialEq, Eq)]
 struct Again {
     found: usize,
     first: Result<Brought, NodeFault>,
+    second: Result<Brought, NodeFault>,
     height: u64,
 }
 
@@ -223,44 +167,94 @@ fn open_again(
     let mut node = opened(alloc, setup, left, seat)?;
     let found = found(&node)?;
     let first = ticked(alloc, &mut node, 0, left, seat)?;
-    if found == 0 {
-        let _ = ticked(alloc, &mut node, 1, left, seat)?;
-    }
+    let second = ticked(alloc, &mut node, 1, left, seat)?;
     Ok(Again {
         found,
         first,
+        second,
         height: node.ledger().height(),
     })
 }
+
+// What comes where so many deeds at number 1 stand.
+fn wanted_again(found: usize) -> Again {
+    Again {
+        found,
+        first: Ok(deeds(left_to_do(found))),
+        second: Ok(deeds(3)),
+        height: if found == 0 { 2 } else { 3 },
+    }
+}
+
+#[test]
+fn a_member_alone_delivers(rt: HostRuntime) -> Result<(), Fail> {
+    let alloc = rt.alloc();
+    let setup = setup_of_one(alloc)?;
+    let mut seat = SealBox::new(alloc)?.seat(7);
+    let mut quiet = empty(alloc)?;
+    assert_eq!(rt; open_again(alloc, &setup, &mut quiet, &mut seat)?, wanted_again(0));
+    let mut left = crashed(quiet, Image::Undo)?;
+    assert_eq!(rt; open_again(alloc, &setup, &mut left, &mut seat)?, wanted_again(3));
+    Ok(())
+}
+
+// What a step answers whose disk stopped, what the next one does, whether the node may propose then, and what
+// comes when it is opened again.
+#[derive(Clone, Copy, Debug, PartialEq, Eq)]
+struct Stopped {
+    first: Result<Brought, NodeFault>,
+    second: Result<Brought, NodeFault>,
+    may_propose: bool,
+    again: Again,
+}
+
+fn stop(alloc: Global, setup: &Setup, call: u32, image: Image) -> Result<Stopped, Fail>
+    requires { IsGenesisConfig setup.now.genesis }
+{
+    let mut seat = SealBox::new(alloc)?.seat(7);
+    let mut quiet = empty(alloc)?;
+    let mut node = opened(alloc, setup, &mut quiet, &mut seat)?;
+    quiet.disk.arm(call, image);
+    let first = ticked(alloc, &mut node, 1, &mut quiet, &mut seat)?;
+    let second = ticked(alloc, &mut node, 1, &mut quiet, &mut seat)?;
+    let may_propose = node.may_propose();
+    let mut left = crashed(quiet, image)?;
+    Ok(Stopped {
+        first,
+        second,
+        may_propose,
+        again: open_again(alloc, setup, &mut left, &mut seat)?,
+    })
+}
+
+fn wanted_stop(found: usize) -> Stopped {
+    Stopped {
+        first: Err(NodeFault::Disk),
+        second: Err(NodeFault::Closed),
+        may_propose: false,
+        again: wanted_again(found),
+    }
+}
+
+// The images of a stopped call, and whether the gate of an entry that was written is open in them.
+const IMAGES: [(Image, bool); 3] = [
+    (Image::Keep, true),
+    (Image::Undo, false),
+    (Image::Fill(0xff), true),
+];
 
 // A deed takes four counted calls, of which the third opens the gate of its entry: it stands where a stop at that
 // one or the next leaves the gate open.
 #[test]
 fn a_node_that_failed_is_closed(rt: HostRuntime) -> Result<(), Fail> {
     let alloc = rt.alloc();
-    let setup = Setup {
-        me: 7,
-        genesis: config_of_one(alloc)?,
-    };
+    let setup = setup_of_one(alloc)?;
     for (image, opens) in IMAGES {
         for done in 0..3 {
             for within in 0..4 {
-                let mut seat = SealBox::new(alloc)?.seat(7);
-                let stopped = stop(alloc, &setup, 4 * done + within + 1, image, &mut seat)?;
-                assert_eq!(rt; stopped.first, Err(NodeFault::Disk));
-                assert_eq!(rt; stopped.second, Err(NodeFault::Closed));
-                assert!(rt; !stopped.may_propose);
-                let mut left = crashed(stopped.quiet, image)?;
-                let more = within >= 2 && opens;
-                let found = done as usize + usize::from(more);
-                assert_eq!(rt;
-                    open_again(alloc, &setup, &mut left, &mut seat)?,
-                    Again {
-                        found,
-                        first: Ok(deeds(left_to_do(found))),
-                        height: 2,
-                    }
-                );
+                let found = done as usize + usize::from(within >= 2 && opens);
+                let call = 4 * done + within + 1;
+                assert_eq!(rt; stop(alloc, &setup, call, image)?, wanted_stop(found));
             }
         }
     }

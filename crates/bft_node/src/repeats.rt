@@ -9,6 +9,7 @@ ghost use Rattle.node_model.specs.Steps.{commits, is_current, repeated_votes};
 ghost use Rattle.bft_node.specs.Calls.{MakesUnwritten, repeats_current};
 ghost use Rattle.bft_node.specs.Making.{sent_of, sent_to_others};
 ghost use Rattle.bft_node.specs.NodeFaults.{HasNodeCause, TouchesNoDisk, counts};
+ghost use Rattle.bft_node.specs.Outcomes.{StaysSound};
 ghost use Rattle.bft_node.specs.Running.{IsReady, IsSame, IsSound, as_found, place_of};
 ghost use Rattle.bft_node.specs.Signings.{Signs};
 
@@ -73,10 +74,7 @@ impl Running {
         out: &mut Out,
     ) -> Result<(), NodeFault>
         requires { IsSound self.old }
-        ensures same { IsSame self.old self.new }
-        ensures sound { IsSound self.new }
-        ensures ready { (tells : Bool) (moments : Items State)
-            → IsReady tells moments self.old → IsReady tells moments self.new }
+        ensures stays { StaysSound self.old self.new }
         ensures makes { Signs K.sign_gives result keys.old keys.new (MakesUnwritten K.accepts
             (repeats_current (as_found (Some found.now))) result self.old keys.old out.old
             self.new keys.new out.new) }
@@ -106,10 +104,7 @@ impl Running {
         out: &mut Out,
     ) -> Result<(), NodeFault>
         requires { IsSound self.old }
-        ensures same { IsSame self.old self.new }
-        ensures sound { IsSound self.new }
-        ensures ready { (tells : Bool) (moments : Items State)
-            → IsReady tells moments self.old → IsReady tells moments self.new }
+        ensures stays { StaysSound self.old self.new }
         ensures makes { Signs K.sign_gives result keys.old keys.new (MakesUnwritten K.accepts
             (λ keys signed c. commits keys signed c digest) result self.old keys.old out.old
             self.new keys.new out.new) }
@@ -131,10 +126,7 @@ impl Running {
         out: &mut Out,
     ) -> Result<(), NodeFault>
         requires { IsSound self.old }
-        ensures same { IsSame self.old self.new }
-        ensures sound { IsSound self.new }
-        ensures ready { (tells : Bool) (moments : Items State)
-            → IsReady tells moments self.old → IsReady tells moments self.new }
+        ensures stays { StaysSound self.old self.new }
         ensures makes { Signs K.sign_gives result keys.old keys.new (MakesUnwritten K.accepts
             (repeats_current (as_found self.old.found)) result (record self.old { found = None })
             keys.old out.old self.new keys.new out.new) }

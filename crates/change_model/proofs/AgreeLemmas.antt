@@ -86,7 +86,7 @@ target_moment p place from target bft different = by_member (is_in from place.co
         let row : record (old from) { target = target } ≡ new from = ap (λ (t : ℕ). record (old from) { target = t }) (sym top) ∙ sym here in
         let kept : change_kept place w from target ≡ record w { known = with_row (record (old from) { target = target }) w.known } = rw (among, bft, found among, lt, found among) refl in
         let rows : with_row (record (old from) { target = target }) w.known ≡ map new place.config.members =
-            ap (λ (k : Known). with_row k w.known) row ∙ rows_with old new from place.config.members different (λ m. refl) refl elsewhere in
+        ap (λ (k : Known). with_row k w.known) row ∙ rows_with old new from place.config.members different (λ m. refl) refl elsewhere in
         kept ∙ ap (λ (ks : List Known). record w { known = ks }) rows
     by_target among false le =
         let least = ltb-false (target_in place.config from p.moments) target le in
@@ -150,7 +150,7 @@ report_moment p place accepts from m different = by_validity (first_reason (data
         let kept : data_kept accepts place w from m ≡ record w { known = with_row (record (old from) { report = Some (kept_report m) }) w.known } = rw (reasons, found) refl in
         let one : record (old from) { report = Some (kept_report m) } ≡ new from = sym (here e ∙ rw newer refl) in
         let rows : with_row (record (old from) { report = Some (kept_report m) }) w.known ≡ map new place.config.members =
-            ap (λ (k : Known). with_row k w.known) one ∙ rows_with old new from place.config.members different (λ i. refl) refl elsewhere in
+        ap (λ (k : Known). with_row k w.known) one ∙ rows_with old new from place.config.members different (λ i. refl) refl elsewhere in
         kept ∙ ap (λ (ks : List Known). record w { known = ks }) rows
     by_newness e found false old' =
         let reasons : first_reason (data_reasons accepts place w from m) ≡ Some reason.Repeat = reasons_back (data_invalid accepts place w from m) ((not (is_new_report m (known_of from w.known)), reason.Repeat) ∷ []) e ∙ rw (found, old') refl in
@@ -224,7 +224,7 @@ none_since step c a (m ∷ ms) none = rw none.0 (none_since step c a ms none.1)
 pub new_config_drops_all : NewConfigDropsAll
 new_config_drops_all p place apart none =
     let rows : known_in p.me place.config p.moments ≡ map unknown place.config.members =
-        rows_equal (row_in p.me place.config p.moments) unknown (λ m. rw (none_since (λ (q : Moment). target_by m q.came) place.config 0 p.moments none, none_since (λ (q : Moment). report_by p.me m q.place q.came) place.config None p.moments none) refl) place.config.members in
+    rows_equal (row_in p.me place.config p.moments) unknown (λ m. rw (none_since (λ (q : Moment). target_by m q.came) place.config 0 p.moments none, none_since (λ (q : Moment). report_by p.me m q.place q.came) place.config None p.moments none) refl) place.config.members in
     by_parts rows
   where
     c : Config
@@ -237,7 +237,7 @@ new_config_drops_all p place apart none =
       none_since (λ (m : Moment). waiting_by m.came) c None p.moments none,
       none_since (λ (m : Moment). own_by m.came) c None p.moments none,
       none_since (λ (m : Moment). reported_by m.place m.came) c None p.moments none,
-      none_since (λ (m : Moment). announced_by m.came) c 0 p.moments none
+      none_since (λ (m : Moment). announced_by m.came) c 0 p.moments none,
     ) refl)
 
 -- AN OPENING

@@ -178,16 +178,31 @@ data_none accepts place w from m h =
     let r = h.valid.report in
     let member : is_in from place.config.members ≡ true = subst (λ (i : ℕ). is_in i place.config.members ≡ true) h.valid.sender r.member in
     let sig : ((m.sig.signer == from) && is_report_signed accepts place m.view m.report m.sig) ≡ true = and_from (m.sig.signer == from) (is_report_signed accepts place m.view m.report m.sig) (eq-eqb m.sig.signer from h.valid.sender) r.signed in
-    none_stands (data_invalid accepts place w from m) (
-      ((not_from_true (is_in from place.config.members) member),
-      ((config_test (is_raft place.config) place.config.number m.config h.bft h.config),
-      ((not_from_true (is_told_below m.view m.report) (below_test m.view m.report r.prepared r.accepted)),
-      ((lt_false m.report.height place.start r.height),
-      ((not_from_true (collector place m.view == w.me) (eq-eqb (collector place m.view) w.me h.collector)),
-      ((not_from_true (is_block_of m.report.prepared m.block) (block_test m.report.prepared m.block h.valid.block)),
-      ((not_from_true (is_last_good accepts place m.report.height m.report.last) (last_test accepts place m.report.height m.report.last r.height r.last)),
-      ((not_from_true _ sig),
-      tt))))))))
+    none_stands (data_invalid accepts place w from m) ((
+      (not_from_true (is_in from place.config.members) member),
+      (
+        (config_test (is_raft place.config) place.config.number m.config h.bft h.config),
+        (
+          (not_from_true (is_told_below m.view m.report) (below_test m.view m.report r.prepared r.accepted)),
+          (
+            (lt_false m.report.height place.start r.height),
+            (
+              (not_from_true (collector place m.view == w.me) (eq-eqb (collector place m.view) w.me h.collector)),
+              (
+                (not_from_true (is_block_of m.report.prepared m.block) (block_test m.report.prepared m.block h.valid.block)),
+                (
+                  (not_from_true (is_last_good accepts place m.report.height m.report.last) (last_test accepts place m.report.height m.report.last r.height r.last)),
+                  (
+                    (not_from_true _ sig),
+                    tt,
+                  ),
+                ),
+              ),
+            ),
+          ),
+        ),
+      ),
+    )
     )
 
 pub data_reasons_say_valid : DataReasonsSayValid
@@ -233,16 +248,31 @@ news_none accepts place w from m h =
     let above : are_from_start place m.reports ≡ true = all_test (λ (s : Signed). nat_le place.start s.report.height) Good (λ s r. le-leb place.start s.report.height r.height) m.reports all in
     let lasts : are_lasts_good accepts place m.reports ≡ true = all_test (λ (s : Signed). is_last_good accepts place s.report.height s.report.last) Good (λ s r. last_test accepts place s.report.height s.report.last r.height r.last) m.reports all in
     let signed : are_signed accepts place m.view m.reports ≡ true = all_test (is_members_report accepts place m.view) Good (λ s r. member_test accepts place m.view s r) m.reports all in
-    none_stands (news_reasons accepts place w from m) (
-      ((not_from_true (is_in from place.config.members) h.sender),
-      ((config_test (is_raft place.config) place.config.number m.config h.bft h.config),
-      ((not_from_true _ (and_from (may_enter w m.view) (are_told_below m.view m.reports) h.view below)),
-      ((not_from_true (are_from_start place m.reports) above),
-      ((not_from_true (collector place m.view == from) (eq-eqb (collector place m.view) from h.collector)),
-      ((not_from_true (is_block_of (carried_in (news_in place m).choice) m.block) (block_test (carried_in (news_in place m).choice) m.block h.valid.block)),
-      ((not_from_true (are_lasts_good accepts place m.reports) lasts),
-      ((not_from_true (are_signed accepts place m.view m.reports) signed),
-      tt))))))))
+    none_stands (news_reasons accepts place w from m) ((
+      (not_from_true (is_in from place.config.members) h.sender),
+      (
+        (config_test (is_raft place.config) place.config.number m.config h.bft h.config),
+        (
+          (not_from_true _ (and_from (may_enter w m.view) (are_told_below m.view m.reports) h.view below)),
+          (
+            (not_from_true (are_from_start place m.reports) above),
+            (
+              (not_from_true (collector place m.view == from) (eq-eqb (collector place m.view) from h.collector)),
+              (
+                (not_from_true (is_block_of (carried_in (news_in place m).choice) m.block) (block_test (carried_in (news_in place m).choice) m.block h.valid.block)),
+                (
+                  (not_from_true (are_lasts_good accepts place m.reports) lasts),
+                  (
+                    (not_from_true (are_signed accepts place m.view m.reports) signed),
+                    tt,
+                  ),
+                ),
+              ),
+            ),
+          ),
+        ),
+      ),
+    )
     )
 
 news_settled : (accepts : Accepts) (place : Place) (w : Changing) (from : ℕ) (m : NewView) → IsNewsHere accepts place w from m → is_settled place m ≡ true

@@ -45,7 +45,7 @@ impl Both {
         Ok(Both {
             alloc,
             pool: Pool::new(alloc, limit, timers, config(alloc, 3, Mode::Normal))?,
-            plain: PlainPool::new(alloc, limit as usize, 3),
+            plain: PlainPool::new(alloc, limit, 3),
             keys: seat(alloc)?,
             state: u64::from(limit),
         })

@@ -42,13 +42,13 @@ pub struct PlainPool {
     window: Vec<u64>,
     pub admitted: u64,
     pub refused: [u64; 5],
-    limit: usize,
+    limit: u32,
     count: usize,
     maintenance: bool,
 }
 
 impl PlainPool {
-    pub fn new(alloc: Global, limit: usize, count: usize) -> PlainPool {
+    pub fn new(alloc: Global, limit: u32, count: usize) -> PlainPool {
         PlainPool {
             alloc,
             waiting: Vec::new(alloc),
@@ -84,8 +84,8 @@ impl PlainPool {
         if self.window.as_slice().contains(&serial) {
             return Some((3, Refusal::KnownDelivered));
         }
-        if self.limit <= self.waiting.len() {
-            return Some((4, Refusal::Full(self.limit as u32)));
+        if (self.limit as usize) <= self.waiting.len() {
+            return Some((4, Refusal::Full(self.limit)));
         }
         None
     }

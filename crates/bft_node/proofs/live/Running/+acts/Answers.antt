@@ -25,5 +25,5 @@ returns-clause-makes g t c =
     let next = c.in_ok-next.next in
     signs_then g.K.Signer.sign_gives next (Ok next) c.acts.result _ _ _ _ _ _ refl
     (λ xs ys at makes more. act_then g.K.Verifier.accepts c.args.told (sym c.is_act.ensures ∙ c.if-not-is_act.false) _
-    c.requires.ready.sound.at (Ok next) next _ _ c.acts.result xs ys refl at c.act.ensures.tells makes more)
+    c.requires.ready.sound.at (Ok next) next _ _ c.acts.result xs ys refl at c.act.ensures.runs.tells makes more)
     c.in_ok-next.ensures.makes c.acts.ensures.makes

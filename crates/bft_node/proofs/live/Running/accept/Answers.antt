@@ -1,4 +1,4 @@
-use Rattle.std.proofs.Common.{IsTrue, ap, refl, subst, sym}
+use Rattle.std.proofs.Common.{IsTrue, ap, arith, refl, subst, sym, ◌∙◌}
 use Rattle.ord_types.specs.declared.values.Block.{Block}
 use Rattle.node_model.specs.Steps.{acceptance}
 use Rattle.bft_node.specs.Held.{Held}
@@ -62,8 +62,19 @@ returns-in_err-told-clause-makes g c = λ b made h.
     (λ t. c.in_ok-keep_acceptance.ensures.ready.kept (subst IsTrue (sym c.keep_acceptance.ensures.tells) t)) fault
     (subst TouchesNoDisk (sym is) tt))
 
-pub returns-clause-ready : goal.returns-clause-ready
-returns-clause-ready g c = c.told.ensures.ready _ _ c.in_ok-keep_acceptance.ensures.ready
+pub returns-clause-runs : goal.returns-clause-runs
+returns-clause-runs g c =
+    let keeps = c.in_ok-keep_acceptance.ensures.keeps in
+    record {
+      same = record {
+        id = c.told.ensures.stays.same.id ∙ keeps.still.id;
+        config = c.told.ensures.stays.same.config ∙ keeps.still.config;
+      };
+      ready = c.told.ensures.stays.ready _ _ c.in_ok-keep_acceptance.ensures.ready;
+      tells = c.keep_acceptance.ensures.tells;
+      later = (c.keep_acceptance.ensures.later, omega arith);
+      cause = tt;
+    }
 
 pub returns-clause-makes : goal.returns-clause-makes
 returns-clause-makes g c = λ b made h.

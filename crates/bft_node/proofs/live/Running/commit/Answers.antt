@@ -6,26 +6,24 @@ use Rattle.view_model.specs.Letters.{Commit}
 use Rattle.bft_node.specs.Commits.{own_letter}
 use Rattle.bft_node.specs.Making.{sent_of, sent_to_others}
 use Rattle.bft_node.specs.Running.{place_of}
-use Rattle.bft_node.proofs.ActLemmas.{placed_sound, voted_sound}
+use Rattle.bft_node.proofs.EventLemmas.{view_stays, vote_view}
 use Rattle.bft_node.proofs.live.Running.commit.Goals as goal
 
-pub returns-in_err-told-clause-sound : goal.returns-in_err-told-clause-sound
-returns-in_err-told-clause-sound g c = placed_sound c.args.self.now c.on_commit.new.self c.place.result.now c.requires c.place.ensures c.in_err-told.ensures.err
+pub returns-in_err-told-clause-stays : goal.returns-in_err-told-clause-stays
+returns-in_err-told-clause-stays g c =
+    let r = c.args.self.now in
+    view_stays r c.on_commit.new.self c.requires
+    (vote_view c.on_commit.result r (g.K.Verifier.accepts c.signed_commit.new.keys) c.place.result.now
+    (own_letter r.id c.in_ok-commit.commit) c.on_commit.new.self c.requires c.place.ensures c.on_commit.ensures.after
+    c.on_commit.ensures.err)
 
-pub returns-in_err-told-clause-ready : goal.returns-in_err-told-clause-ready
-returns-in_err-told-clause-ready g c = λ tells moments ready.
-    record { sound = placed_sound c.args.self.now c.on_commit.new.self c.place.result.now c.requires c.place.ensures c.in_err-told.ensures.err; kept = ready.kept }
-
-pub returns-clause-sound : goal.returns-clause-sound
-returns-clause-sound g c =
-    voted_sound (g.K.Verifier.accepts c.signed_commit.new.keys) (own_letter c.args.self.now.id c.in_ok-commit.commit) c.args.self.now c.on_commit.new.self c.place.result.now c.requires c.place.ensures c.in_ok-told.ensures.after
-
-pub returns-clause-ready : goal.returns-clause-ready
-returns-clause-ready g c = λ tells moments ready.
-    record {
-      sound = voted_sound (g.K.Verifier.accepts c.signed_commit.new.keys) (own_letter c.args.self.now.id c.in_ok-commit.commit) c.args.self.now c.on_commit.new.self c.place.result.now c.requires c.place.ensures c.in_ok-told.ensures.after;
-      kept = ready.kept;
-    }
+pub returns-clause-stays : goal.returns-clause-stays
+returns-clause-stays g c =
+    let r = c.args.self.now in
+    view_stays r c.on_commit.new.self c.requires
+    (vote_view c.on_commit.result r (g.K.Verifier.accepts c.signed_commit.new.keys) c.place.result.now
+    (own_letter r.id c.in_ok-commit.commit) c.on_commit.new.self c.requires c.place.ensures c.on_commit.ensures.after
+    c.on_commit.ensures.err)
 
 pub returns-clause-signs : goal.returns-clause-signs
 returns-clause-signs g c =

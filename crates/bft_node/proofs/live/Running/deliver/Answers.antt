@@ -1,4 +1,4 @@
-use Rattle.std.proofs.Common.{IsTrue, ap, refl, subst, sym, ◌∙◌}
+use Rattle.std.proofs.Common.{IsTrue, ap, arith, refl, subst, sym, ◌∙◌}
 use Rattle.ord_types.specs.declared.values.Place.{Place}
 use Rattle.ord_types.specs.declared.values.Proof.TheVariants.{Bft}
 use Rattle.chan_config.specs.Places.{next_place}
@@ -56,19 +56,29 @@ returns-clause-makes g c = λ b made h.
     tells_made b _ new c.told.new.self _ (g.V.Verifier.accepts c.args.keys.now) c.in_ok-told.field-0 refl
     (makes_tells b _ _ new _ _ _ _ c.keep_delivery.new.out c.keep_delivery.ensures.tells done) c.in_ok-told.ensures.told
 
-pub returns-clause-ready : goal.returns-clause-ready
-returns-clause-ready g c =
+pub returns-clause-runs : goal.returns-clause-runs
+returns-clause-runs g c =
     let r = c.args.self.now in
     let mid = c.keep_delivery.new.self in
     let keeps = c.in_ok-keep_delivery.ensures.keeps in
-    c.told.ensures.ready _ _
+    let ready = c.told.ensures.stays.ready _ _
     (record {
       sound = delivered_sound r mid c.go_to.new.self c.args.block (Bft c.args.cert) c.requires.sound keeps.still
           (delivered_place r mid c.args.block (Bft c.args.cert) keeps.still.config
           (ap (λ (x : Held). x.blocks) keeps.held)) c.in_ok-keep_delivery.ensures.place
           (c.go_to.ensures ∙ ap (λ (p : Place). at_place p mid.view) c.place.ensures);
       kept = c.in_ok-keep_delivery.ensures.kept;
-    })
+    }) in
+    record {
+      same = record {
+        id = c.told.ensures.stays.same.id ∙ keeps.still.id;
+        config = c.told.ensures.stays.same.config ∙ keeps.still.config;
+      };
+      ready = ready;
+      tells = c.keep_delivery.ensures.tells;
+      later = (c.keep_delivery.ensures.later, omega arith);
+      cause = tt;
+    }
 
 pub returns-clause-next : goal.returns-clause-next
 returns-clause-next g c =

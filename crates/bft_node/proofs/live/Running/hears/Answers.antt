@@ -10,8 +10,7 @@ use Rattle.bft_node.proofs.EventLemmas.{
   letter_of,
   no_letter,
   not_vote,
-  view_ready,
-  view_sound,
+  view_stays,
   vote_told,
   vote_view,
 }
@@ -26,15 +25,9 @@ returns-then-from-self-clause-told g c =
     (λ told t bytes spelt. asked_again r r c.told.new.self accepts (FromMember c.args.from bytes) told refl refl refl
     (hears_own r accepts c.args.from bytes (c.if-from-self.true ∙ sym c.requires.sound.me)) t) c.told.ensures.told
 
-pub returns-in-PrePrepare-clause-sound : goal.returns-in-PrePrepare-clause-sound
-returns-in-PrePrepare-clause-sound g c =
-    view_sound c.args.self.now c.on_preprepare.new.self c.requires.sound
-    (vote_view c.on_preprepare.result c.args.self.now (g.V.Verifier.accepts c.args.keys.now) c.place.result.now (letter_of c.args.from (vote_of.PrePrepare c.in-PrePrepare.message))
-    c.on_preprepare.new.self c.requires.sound c.place.ensures c.on_preprepare.ensures.after c.on_preprepare.ensures.err)
-
-pub returns-in-PrePrepare-clause-ready : goal.returns-in-PrePrepare-clause-ready
-returns-in-PrePrepare-clause-ready g c =
-    view_ready c.args.self.now c.on_preprepare.new.self
+pub returns-in-PrePrepare-clause-stays : goal.returns-in-PrePrepare-clause-stays
+returns-in-PrePrepare-clause-stays g c =
+    view_stays c.args.self.now c.on_preprepare.new.self c.requires.sound
     (vote_view c.on_preprepare.result c.args.self.now (g.V.Verifier.accepts c.args.keys.now) c.place.result.now (letter_of c.args.from (vote_of.PrePrepare c.in-PrePrepare.message))
     c.on_preprepare.new.self c.requires.sound c.place.ensures c.on_preprepare.ensures.after c.on_preprepare.ensures.err)
 
@@ -52,15 +45,9 @@ returns-in-Prepare-clause-told g c =
     IfOk-weaker c.on_prepare.result _ _
     (λ told t bytes spelt. t bytes (spelt ∙ ap (λ m. Some m) c.in-Prepare.is)) c.on_prepare.ensures.told
 
-pub returns-in-Commit-clause-sound : goal.returns-in-Commit-clause-sound
-returns-in-Commit-clause-sound g c =
-    view_sound c.args.self.now c.on_commit.new.self c.requires.sound
-    (vote_view c.on_commit.result c.args.self.now (g.V.Verifier.accepts c.args.keys.now) c.place-in-Commit.result.now (letter_of c.args.from (vote_of.Commit c.in-Commit.message))
-    c.on_commit.new.self c.requires.sound c.place-in-Commit.ensures c.on_commit.ensures.after c.on_commit.ensures.err)
-
-pub returns-in-Commit-clause-ready : goal.returns-in-Commit-clause-ready
-returns-in-Commit-clause-ready g c =
-    view_ready c.args.self.now c.on_commit.new.self
+pub returns-in-Commit-clause-stays : goal.returns-in-Commit-clause-stays
+returns-in-Commit-clause-stays g c =
+    view_stays c.args.self.now c.on_commit.new.self c.requires.sound
     (vote_view c.on_commit.result c.args.self.now (g.V.Verifier.accepts c.args.keys.now) c.place-in-Commit.result.now (letter_of c.args.from (vote_of.Commit c.in-Commit.message))
     c.on_commit.new.self c.requires.sound c.place-in-Commit.ensures c.on_commit.ensures.after c.on_commit.ensures.err)
 
@@ -78,9 +65,7 @@ returns g c =
     let r = c.args.self.now in
     let accepts = g.V.Verifier.accepts c.args.keys.now in
     record {
-      same = c.told-in_default.ensures.same;
-      sound = c.told-in_default.ensures.sound;
-      ready = c.told-in_default.ensures.ready;
+      stays = c.told-in_default.ensures.stays;
       fits = c.told-in_default.ensures.fits;
       told = IfOk-weaker c.told-in_default.result _ _
           (λ told t bytes spelt. asked_again r r c.told-in_default.new.self accepts (FromMember c.args.from bytes) told

@@ -8,19 +8,14 @@ use Rattle.bft_node.proofs.EventLemmas.{
   prepare_view,
   view_ready,
   view_sound,
+  view_stays,
   with_view,
 }
 use Rattle.bft_node.proofs.live.Running.on_prepare.Goals as goal
 
-pub returns-in-Prepare-clause-sound : goal.returns-in-Prepare-clause-sound
-returns-in-Prepare-clause-sound g c =
-    view_sound c.args.self.now c.on_prepare-told.new.self c.requires.sound
-    (prepare_view c.args.self.now c.on_prepare-told.new.self c.args.from c.args.message.now c.on_prepare-told.result c.place.result.now
-    c.requires.sound c.requires.other c.place.ensures c.on_prepare-told.ensures.answer c.on_prepare-told.ensures.after)
-
-pub returns-in-Prepare-clause-ready : goal.returns-in-Prepare-clause-ready
-returns-in-Prepare-clause-ready g c =
-    view_ready c.args.self.now c.on_prepare-told.new.self
+pub returns-in-Prepare-clause-stays : goal.returns-in-Prepare-clause-stays
+returns-in-Prepare-clause-stays g c =
+    view_stays c.args.self.now c.on_prepare-told.new.self c.requires.sound
     (prepare_view c.args.self.now c.on_prepare-told.new.self c.args.from c.args.message.now c.on_prepare-told.result c.place.result.now
     c.requires.sound c.requires.other c.place.ensures c.on_prepare-told.ensures.answer c.on_prepare-told.ensures.after)
 
@@ -41,9 +36,12 @@ returns g c =
     let left = prepare_view c.args.self.now c.on_prepare-told.new.self c.args.from c.args.message.now c.on_prepare-told.result c.place.result.now
     c.requires.sound c.requires.other c.place.ensures c.on_prepare-told.ensures.answer c.on_prepare-told.ensures.after in
     record {
-      same = record { id = c.told.ensures.same.id; config = c.told.ensures.same.config };
-      sound = c.told.ensures.sound;
-      ready = λ tells moments ready. c.told.ensures.ready tells moments (view_ready c.args.self.now c.on_prepare-told.new.self left tells moments ready);
+      stays = record {
+        same = record { id = c.told.ensures.stays.same.id; config = c.told.ensures.stays.same.config };
+        sound = c.told.ensures.stays.sound;
+        ready = λ tells moments ready. c.told.ensures.stays.ready tells moments
+            (view_ready c.args.self.now c.on_prepare-told.new.self left tells moments ready);
+      };
       fits = c.told.ensures.fits;
       told = IfOk-weaker c.told.result _ _
           (λ told t bytes spelt. asked_again c.args.self.now (with_view c.args.self.now c.on_prepare-told.new.self)

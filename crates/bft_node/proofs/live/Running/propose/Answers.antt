@@ -37,14 +37,16 @@ pub returns : goal.returns
 returns g c =
     let r = c.args.self.now in
     record {
-      same = record { id = refl; config = refl };
-      ready = view_ready r c.propose.new.self
-          (propose_view c.propose.result r c.place.result.now c.args.offer c.propose.new.self c.requires.sound
-          c.place.ensures c.propose.ensures.after c.propose.ensures.err) _ _ c.requires;
+      runs = record {
+        same = record { id = refl; config = refl };
+        ready = view_ready r c.propose.new.self
+            (propose_view c.propose.result r c.place.result.now c.args.offer c.propose.new.self c.requires.sound
+            c.place.ensures c.propose.ensures.after c.propose.ensures.err) _ _ c.requires;
+        tells = refl;
+        later = (omega arith, omega arith);
+        cause = tt;
+      };
       makes = λ b made h. unproposed_makes b made r _ h c.requires.sound c.args.offer c.propose.new.self
           c.in_ok-block.field-0 c.place.result.now c.place.ensures c.in_ok-block.ensures.answer
           c.in_ok-block.ensures.after c.in_default.not-Accept;
-      tells = refl;
-      later = omega arith;
-      cause = tt;
     }

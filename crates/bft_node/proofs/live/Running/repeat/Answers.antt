@@ -5,13 +5,22 @@ use Rattle.node_model.specs.Entries.{Entry, statements_of}
 use Rattle.bft_node.specs.Calls.{after_rule, repeats_current}
 use Rattle.bft_node.specs.Running.{as_found}
 use Rattle.bft_node.proofs.MakingLemmas.{makes_as}
-use Rattle.bft_node.proofs.RepeatLemmas.{makes_found, ready_taken, repeats_as, without_found}
+use Rattle.bft_node.proofs.RepeatLemmas.{makes_found, ready_taken, repeats_as, taken_stays, without_found}
 use Rattle.bft_node.proofs.SigningLemmas.{signs_nothing, signs_with}
 use Rattle.bft_node.proofs.live.Running.repeat.Goals as goal
 
-pub returns-in-Some-clause-ready : goal.returns-in-Some-clause-ready
-returns-in-Some-clause-ready g c = λ tells moments ready.
-    c.repeat_found.ensures.ready tells moments (ready_taken tells moments c.args.self.now c.replace.new.dest ready)
+pub returns-in-Some-clause-stays : goal.returns-in-Some-clause-stays
+returns-in-Some-clause-stays g c =
+    let s = c.repeat_found.ensures.stays in
+    record {
+      same = record { id = s.same.id; config = s.same.config };
+      sound = s.sound;
+      ready = λ tells moments ready. s.ready tells moments
+          (ready_taken tells moments c.args.self.now c.replace.new.dest ready);
+    }
+
+pub returns-in-None-clause-stays : goal.returns-in-None-clause-stays
+returns-in-None-clause-stays g c = taken_stays c.args.self.now c.replace.new.dest c.requires
 
 pub returns-in-Some-clause-makes : goal.returns-in-Some-clause-makes
 returns-in-Some-clause-makes g c =

@@ -34,9 +34,7 @@ pub returns : goal.returns
 returns g c =
     let s = c.in_ok-commit.ensures.signs in
     record {
-      same = c.commit.ensures.same;
-      sound = c.commit.ensures.sound;
-      ready = c.commit.ensures.ready;
+      stays = c.commit.ensures.stays;
       makes = record {
         signings = s.signings;
         given = s.given;

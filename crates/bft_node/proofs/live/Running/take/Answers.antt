@@ -34,7 +34,7 @@ returns-clause-makes g c =
     c.acts.ensures.makes
 
 pub acts-requires-clause-ready : goal.acts-requires-clause-ready
-acts-requires-clause-ready g c = c.comes.ensures.ready _ _ c.requires
+acts-requires-clause-ready g c = c.comes.ensures.stays.ready _ _ c.requires
 
 pub acts-requires-clause-due : goal.acts-requires-clause-due
 acts-requires-clause-due g c =

@@ -67,9 +67,9 @@ returns-in_err-told-clause-makes g c =
     let two = c.in_ok-propose.ensures.makes b (ticked b r offer) one.0 in
     given_up c.from_residual-in_err-told.result _ _ _ c.from_residual-in_err-told.ensures.1
     (λ fault is. stopped_by b _ _ _ _ _ _ _ _ _ fault fault (sym (tick_step b r _ offer h))
-    (sym (proposes_said b (ticked b r offer) offer ∙ one.1)) (sym (ap accepts at)) (sym c.propose.ensures.tells) refl
+    (sym (proposes_said b (ticked b r offer) offer ∙ one.1)) (sym (ap accepts at)) (sym c.propose.ensures.runs.tells) refl
     (stopped b (offered_in b r offer) _ act_of.Kept c.propose.new.self _ fault two
-    c.in_ok-propose.ensures.ready.kept (no_memory fault is))))
+    c.in_ok-propose.ensures.runs.ready.kept (no_memory fault is))))
     c.in_ok-repeat.ensures.makes
 
 pub returns-clause-makes : goal.returns-clause-makes
@@ -97,17 +97,17 @@ returns-clause-makes g c =
     let grows_then = subst (λ k. Grows accepts k ys) (sym at) (grows_rest accepts old xs ys grows) in
     goes_quiet b c.acts.result c.acts.new.self _ _ _ _ _ _ _ _ _ _ (tick_step b r _ offer h)
     (ap (λ (l : List (List ℕ)). l ++ statements_in ys) signed ∙ sym (statements-append xs ys))
-    (ap (λ k. accepts (keys_after k ys)) at ∙ ap accepts (sym (keys_after-append old xs ys))) c.propose.ensures.tells
+    (ap (λ k. accepts (keys_after k ys)) at ∙ ap accepts (sym (keys_after-append old xs ys))) c.propose.ensures.runs.tells
     (more b second fit_then grows_then three))
     c.in_ok-repeat.ensures.makes c.acts.ensures.makes
 
 pub propose-requires : goal.propose-requires
-propose-requires g c = c.repeat.ensures.ready _ _ c.requires
+propose-requires g c = c.repeat.ensures.stays.ready _ _ c.requires
 
 pub acts-requires-clause-ready : goal.acts-requires-clause-ready
-acts-requires-clause-ready g c = c.told.ensures.ready _ _ c.in_ok-propose.ensures.ready
+acts-requires-clause-ready g c = c.told.ensures.stays.ready _ _ c.in_ok-propose.ensures.runs.ready
 
 pub acts-requires-clause-due : goal.acts-requires-clause-due
 acts-requires-clause-due g c =
     told_due_here (g.K.Verifier.accepts c.repeat.new.keys) c.in_ok-told.told c.propose.new.self c.told.new.self
-    c.in_ok-propose.ensures.ready.sound.at c.in_ok-told.ensures.told
+    c.in_ok-propose.ensures.runs.ready.sound.at c.in_ok-told.ensures.told

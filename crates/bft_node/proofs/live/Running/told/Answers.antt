@@ -1,4 +1,4 @@
-use Rattle.bft_node.proofs.EventLemmas.{due_view, view_ready, view_sound}
+use Rattle.bft_node.proofs.EventLemmas.{due_view, view_stays}
 use Rattle.bft_node.proofs.MakingLemmas.{IfOk-with}
 use Rattle.bft_node.proofs.ToldLemmas.{due_told}
 use Rattle.bft_node.proofs.live.Running.told.Goals as goal
@@ -11,16 +11,9 @@ returns-clause-told g c =
     c.place.ensures c.requires.at answer after)
     c.due.ensures.answer c.due.ensures.after
 
-pub returns-clause-sound : goal.returns-clause-sound
-returns-clause-sound g c =
+pub returns-clause-stays : goal.returns-clause-stays
+returns-clause-stays g c =
     let r = c.args.self.now in
-    view_sound r c.due.new.self c.requires
-    (due_view c.due.result r (g.V.Verifier.accepts c.args.keys.now) c.place.result.now c.due.new.self c.requires
-    c.place.ensures c.due.ensures.after c.due.ensures.err)
-
-pub returns-clause-ready : goal.returns-clause-ready
-returns-clause-ready g c =
-    let r = c.args.self.now in
-    view_ready r c.due.new.self
+    view_stays r c.due.new.self c.requires
     (due_view c.due.result r (g.V.Verifier.accepts c.args.keys.now) c.place.result.now c.due.new.self c.requires
     c.place.ensures c.due.ensures.after c.due.ensures.err)

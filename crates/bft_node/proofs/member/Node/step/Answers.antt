@@ -35,9 +35,9 @@ returns-clause-step g c = λ runs.
     (fits_now accepts model [] c.args.keys.now xs fit) c.new-out.ensures.facts c.new-out.ensures.sends
     c.new-out.ensures.done in
     let made = does (before_of model old first before) fit grows begins in
-    let ready = c.in_ok-step.ensures.ready in
+    let ready = c.in_ok-step.ensures.runs.ready in
     takes_as model old c.step.new.self c.args.event (statements_in xs) first _ _ _ _ _ before after
-    (ap accepts at) c.step.ensures.tells
+    (ap accepts at) c.step.ensures.runs.tells
     (takes_ok model old c.step.new.self c.args.event (statements_in xs) first _ (g.D.Disk.tells c.step.new.disk) before after c.step.new.out made.0
     made.1 (c.args.self.now.sound runs).at.height ready.sound.place ready.kept))
     c.in_ok-step.ensures.makes
