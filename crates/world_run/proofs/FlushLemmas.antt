@@ -16,7 +16,7 @@ use Rattle.world_model.specs.Cores.{core_keeping, core_setting}
 use Rattle.world_model.specs.Texts.{fact_text, flush_text}
 use Rattle.world_model.specs.Turns.{delivery, delivery_to, event_by, event_goes, event_turn, first_outcome, flush_turn, flushes, goes_on, says, with_later, within_limit}
 use Rattle.world_model.specs.Worlds as worlds
-use Rattle.world_model.specs.Worlds.{GoesOn, Outcome, Stops}
+use Rattle.world_model.specs.Worlds.{GoesOn, Outcome, Stops, outcome_in}
 use Rattle.bft_node.specs.Lodgings.{Lodging}
 use Rattle.world_run.specs.Entries.{entry_of}
 use Rattle.world_run.specs.Going.{Goes, Plays}
@@ -112,15 +112,20 @@ event_by_leaves number k e w v next node event (Stops cut) nodes network is =
       same = refl;
     }
 
-event_chosen : (number k : ℕ) (e : worlds.Entry) (w next : Model) (node : worlds.Node Core) (b : Bool)
-    → (cond b (event_by core_setting number (with_later (worlds.marked k e w)) node (worlds.letter_from e) (first_outcome w.outcomes)) (event_goes core_setting number (worlds.marked k e w) node (worlds.letter_from e))).next ≡ Ok next
+event_chosen : (number k : ℕ) (e : worlds.Entry) (w next : Model) (node : worlds.Node Core) (outcome : Outcome)
+    (b : Bool)
+    → (cond b (event_by core_setting number (with_later (worlds.marked k e w)) node (worlds.letter_from e) outcome) (event_goes core_setting number (worlds.marked k e w) node (worlds.letter_from e))).next ≡ Ok next
     → Leaves k e node w next
-event_chosen number k e w next node true is = event_by_leaves number k e w (with_later (worlds.marked k e w)) next node (worlds.letter_from e) (first_outcome w.outcomes) refl refl is
-event_chosen number k e w next node false is = event_goes_leaves number k e w (worlds.marked k e w) next node (worlds.letter_from e) refl refl is
+event_chosen number k e w next node outcome true is =
+    event_by_leaves number k e w (with_later (worlds.marked k e w)) next node (worlds.letter_from e) outcome refl refl is
+event_chosen number k e w next node outcome false is = event_goes_leaves number k e w (worlds.marked k e w) next node (worlds.letter_from e) refl refl is
 
 event_leaves : (number k : ℕ) (e : worlds.Entry) (w next : Model) (node : worlds.Node Core) → (event_turn core_setting number (worlds.marked k e w) node (worlds.letter_from e)).next ≡ Ok next → Leaves k e node w next
 unfolding event_turn
-event_leaves number k e w next node is = event_chosen number k e w next node node.armed is
+event_leaves number k e w next node is =
+    event_chosen number k e w next node
+    (outcome_in (worlds.making core_setting (worlds.marked k e w) node (worlds.letter_from e)) (first_outcome w.outcomes))
+    node.armed is
 
 -- an entry that waits has a receiver that runs
 abbrev pub LeavesSome : ℕ → worlds.Entry → Option (worlds.Node Core) → Model → Model → Type 0

@@ -7,10 +7,8 @@ use Rattle.std.proofs.Common.{
   true,
   false,
   ltb,
-  zero,
-  suc,
+  lt-ltb,
   ◌≤◌,
-  arith,
   length,
   List,
   [],
@@ -229,8 +227,7 @@ stopped_in c seat l failed node event after image left seated is crash opens =
 
 -- a test of what is so
 lt_is : {n : ℕ} → 1 ≤ n → ltb 0 n ≡ true
-lt_is {n = zero} le = absurd (omega (arith, le))
-lt_is {n = suc n} le = refl
+lt_is {n} le = lt-ltb 0 n le
 
 -- an armed node takes the outcome
 turn_stopped : (number : ℕ) (at : Lodging) (old : World) (later : List Outcome) (node : worlds.Node Core) (id : ℕ)
