@@ -40,7 +40,7 @@ use Rattle.bft_node.specs.declared.lodged.Lodged.{Lodged}
 use Rattle.bft_node.specs.declared.member.Node.{Node}
 use Rattle.world_run.specs.Going.{Plays}
 use Rattle.world_run.specs.Mapped.{Model, world_of}
-use Rattle.world_run.specs.Members.{IsMember, IsSeated, LooksAlike, node_of}
+use Rattle.world_run.specs.Members.{IsMember, IsSeated, node_of}
 use Rattle.world_run.specs.Moves.{Reads}
 use Rattle.world_run.specs.Sound.{IsSound, KeepsNodes}
 use Rattle.world_run.specs.declared.member.Member.{Member}
@@ -51,6 +51,12 @@ use Rattle.world_run.proofs.MoveLemmas.{alike_self, sound_kept}
 use Rattle.world_run.proofs.NodeLemmas.{node_there, node_with}
 
 -- WHAT A READ LEAVES
+
+-- each member's node is looked at as it was, and is seated where it was
+pub record LooksAlike (c : Config) (before after : Lodging) : Type 0 where
+  pub nodes : (member : Member) → node_of c after member ≡ node_of c before member
+  pub seated : (accepts : Accepts) (member : Member) → IsMember c accepts before member
+      → IsMember c accepts after member
 
 seated_read : (c : Config) (accepts : Accepts) (id : ℕ) (old new : Lodged) → IsRead old new
     → IsSeated c accepts id old → IsSeated c accepts id new

@@ -43,9 +43,3 @@ pub record IsMember (c : Config) (accepts : Accepts) (at : Lodging) (member : Me
   pub node : Lodged
   pub there : at member.id ≡ Some node
   pub seated : IsSeated c accepts member.id node
-
--- each is looked at as it was, and is seated where it was
-pub record LooksAlike (c : Config) (before after : Lodging) : Type 0 where
-  pub nodes : (member : Member) → node_of c after member ≡ node_of c before member
-  pub seated : (accepts : Accepts) (member : Member) → IsMember c accepts before member
-      → IsMember c accepts after member
