@@ -2,7 +2,7 @@ use Rattle.std.proofs.Common.{◌≡◌, ◌∙◌, ap, List, refl}
 use Rattle.std.specs.List.{AllByRecursion}
 use Rattle.line_flow.specs.Lines.{lines}
 use Rattle.ord_types.specs.Told.{told}
-use Rattle.node_model.specs.Restarts.{Returned}
+use Rattle.node_model.specs.Cores.{Core}
 use Rattle.script_play.specs.Choices.{MeansOnly}
 use Rattle.script_play.specs.Runs.{Run, script_run}
 use Rattle.world_model.specs.Cores.{core_setting}
@@ -17,7 +17,7 @@ use Rattle.orderer.proofs.offline.run_world.Goals as goal
 pub returns-in-Ok-clause-plays : goal.returns-in-Ok-clause-plays
 returns-in-Ok-clause-plays g c = λ reads.
     let script = told (g.S.Source.left c.args.source.now) in
-    let run = λ (stage : Stage Returned (Unit {0})). script_run (stage_turn core_setting) (stage_closing core_setting) stage script in
+    let run = λ (stage : Stage Core (Unit {0})). script_run (stage_turn core_setting) (stage_closing core_setting) stage script in
     plays_script _ script _ _ _ _ _
     (λ outcomes. ap run (c.new-runner.ensures.world outcomes) ∙ stages_agree outcomes script)
     (λ none. record { decided = c.new-runner.ensures.decided; each = none })
@@ -26,7 +26,7 @@ returns-in-Ok-clause-plays g c = λ reads.
 pub returns-clause-plays : goal.returns-clause-plays
 returns-clause-plays g c = λ reads.
     let script = told (g.S.Source.left c.args.source.now) in
-    let run = λ (stage : Stage Returned (Unit {0})). script_run (stage_turn core_setting) (stage_closing core_setting) stage script in
+    let run = λ (stage : Stage Core (Unit {0})). script_run (stage_turn core_setting) (stage_closing core_setting) stage script in
     plays_script _ script _ _ _ _ _
     (λ outcomes. ap run (c.new-runner.ensures.world outcomes) ∙ stages_agree outcomes script)
     (λ none. record { decided = c.new-runner.ensures.decided; each = none })
